@@ -1,0 +1,118 @@
+//! A failing call at each place of a run, and an input as long as its limit.
+
+use crate::check::FIRST;
+use bgt_cli::{Status, run};
+use message_text::Limits;
+use outside::MemOutside;
+use std::alloc::Global;
+use std::test::Fail;
+
+// The run of `check` on the smallest map takes its 266 bytes in three pieces and an empty one, and tells the 5 bytes
+// of its line in one.
+const PIECE: usize = 100;
+
+const LINE: &[u8] = b"1 OK\n";
+
+fn failing(alloc: Global, call: u64, piece: usize) -> Result<(Vec<u8>, Status), Fail> {
+    let piece = piece.max(1);
+    let mut outside = MemOutside::new(alloc, FIRST.as_bytes(), piece, &[call], None, 1 << 20)?;
+    let status = run(alloc, &["check"], &Limits::standard(), &mut outside);
+    Ok((outside.told().to_vec(alloc)?, status))
+}
+
+#[test]
+fn each_call_fails(rt: HostRuntime) -> Result<(), Fail> {
+    // Call, bytes of the line that are told, and the status.
+    let rows = [
+        (1, 0, Status::ReadFault),
+        (2, 0, Status::ReadFault),
+        (3, 0, Status::ReadFault),
+        (4, 0, Status::ReadFault),
+        (5, 0, Status::WriteFault),
+        (6, 5, Status::Good),
+    ];
+    for (call, bytes, ends) in rows {
+        let (told, status) = failing(rt.alloc(), call, PIECE)?;
+        assert_eq!(rt; told.as_slice(), &LINE[..bytes], "call {call}");
+        assert_eq!(rt; status, ends, "call {call}");
+    }
+    Ok(())
+}
+
+#[test]
+fn each_give_of_a_byte_fails(rt: HostRuntime) -> Result<(), Fail> {
+    // In one-byte pieces there are 266 takes and the empty one, and then five gives.
+    for bytes in 0..5usize {
+        let (told, status) = failing(rt.alloc(), 268 + bytes as u64, 1)?;
+        assert_eq!(rt; told.as_slice(), &LINE[..bytes], "byte {bytes}");
+        assert_eq!(rt; status, Status::WriteFault, "byte {bytes}");
+    }
+    Ok(())
+}
+
+#[test]
+fn all_calls_stop(rt: HostRuntime) -> Result<(), Fail> {
+    // No call after this one is answered: bytes of the line that are told, and the status.
+    let rows = [
+        (0, 0, Status::ReadFault),
+        (3, 0, Status::ReadFault),
+        (4, 0, Status::WriteFault),
+        (5, 5, Status::Good),
+    ];
+    for (stop, bytes, ends) in rows {
+        let input = FIRST.as_bytes();
+        let mut outside = MemOutside::new(rt.alloc(), input, PIECE, &[], Some(stop), 1 << 20)?;
+        let status = run(rt.alloc(), &["check"], &Limits::standard(), &mut outside);
+        assert_eq!(rt; outside.told(), &LINE[..bytes], "stop {stop}");
+        assert_eq!(rt; status, ends, "stop {stop}");
+    }
+    Ok(())
+}
+
+#[test]
+fn usage_is_cut_short(rt: HostRuntime) -> Result<(), Fail> {
+    for (call, front) in [
+        (1, b"".as_slice()),
+        (2, b"USA".as_slice()),
+        (3, b"USAGE\n".as_slice()),
+    ] {
+        let mut outside = MemOutside::new(rt.alloc(), b"x", 3, &[call], None, 1 << 20)?;
+        let status = run(rt.alloc(), &["chec"], &Limits::standard(), &mut outside);
+        assert_eq!(rt; outside.told(), front, "call {call}");
+        let ends = if call < 3 {
+            Status::WriteFault
+        } else {
+            Status::Usage
+        };
+        assert_eq!(rt; status, ends, "call {call}");
+    }
+    Ok(())
+}
+
+#[test]
+fn input_as_long_as_the_limit(rt: HostRuntime) -> Result<(), Fail> {
+    // The smallest map has 266 bytes. How many may be taken, and how the run ends.
+    let rows = [
+        (1, Status::InputLong),
+        (265, Status::InputLong),
+        (266, Status::InputLong),
+        (267, Status::Good),
+    ];
+    for (input_bytes, ends) in rows {
+        let limits = Limits {
+            input_bytes,
+            ..Limits::standard()
+        };
+        let input = FIRST.as_bytes();
+        let mut outside = MemOutside::new(rt.alloc(), input, 64, &[], None, 1 << 20)?;
+        let status = run(rt.alloc(), &["check"], &limits, &mut outside);
+        assert_eq!(rt; status, ends, "{input_bytes} bytes");
+        let line = if input_bytes == 267 {
+            LINE
+        } else {
+            b"".as_slice()
+        };
+        assert_eq!(rt; outside.told(), line, "{input_bytes} bytes");
+    }
+    Ok(())
+}

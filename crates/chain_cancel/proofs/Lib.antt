@@ -1,0 +1,14 @@
+pub mod Balance
+pub mod Coverage
+pub mod Members
+pub mod Rings
+pub mod Free
+pub mod Exact
+pub mod Own
+pub mod Ends
+pub mod Faces
+pub mod Mosaic
+pub mod Nodes
+pub mod Example
+pub mod Places
+pub mod Sorted

@@ -1,0 +1,7 @@
+pub mod Days
+pub mod Moments
+pub mod Cuts
+pub mod Metres
+pub mod Texts
+pub mod Solid
+mod Examples

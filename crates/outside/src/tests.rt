@@ -1,0 +1,61 @@
+use super::*;
+use std::test::Fail;
+
+// Each row: is it a `take`; the length of its buffer or piece; what it answers; the told text and the number of calls
+// after it. The room is 7 entries and 4 told bytes. Call 3 is to fail, 7 is past the room, and 8 and 9 come after the last.
+#[test]
+fn in_memory(rt: HostRuntime) -> Result<(), Fail> {
+    let rows: [(bool, usize, Result<usize, Failed>, &[u8], u64); 9] = [
+        (true, 5, Ok(2), b"", 1),
+        (false, 5, Ok(2), b"xy", 2),
+        (true, 5, Err(Failed), b"xy", 3),
+        (true, 1, Ok(1), b"xy", 4),
+        (false, 1, Ok(1), b"xyx", 5),
+        (false, 0, Ok(0), b"xyx", 6),
+        (false, 2, Err(Failed), b"xyx", 7),
+        (true, 4, Err(Failed), b"xyx", 8),
+        (true, 4, Err(Failed), b"xyx", 9),
+    ];
+    let mut outside = MemOutside::new(rt.alloc(), b"abc", 2, &[3], Some(7), 7 * ENTRY_BYTES + 4)?;
+    let mut buf = [0; 5];
+    for (is_take, len, want, told, calls) in rows {
+        let had = if is_take {
+            outside.take(&mut buf[..len])
+        } else {
+            outside.give(&b"xyz.."[..len])
+        };
+        assert_eq!(rt; had, want, "call {calls}");
+        assert_eq!(rt; outside.told(), told, "call {calls}");
+        assert_eq!(rt; outside.calls(), calls);
+    }
+    assert_eq!(rt; buf, *b"cb\0\0\0");
+    let entries = [
+        Call::Took { bytes: 2 },
+        Call::Gave { bytes: 2 },
+        Call::TakeFailed,
+        Call::Took { bytes: 1 },
+        Call::Gave { bytes: 1 },
+        Call::Gave { bytes: 0 },
+        Call::TakeFailed,
+    ];
+    assert_eq!(rt; outside.entries(), entries.as_slice());
+    Ok(())
+}
+
+#[test]
+fn fault_free(rt: HostRuntime) -> Result<(), Fail> {
+    let mut outside = FaultFree::new(b"abcde", 3);
+    let mut buf = [0; 4];
+    assert_eq!(rt; outside.take(&mut buf), Ok(3));
+    assert_eq!(rt; outside.give(b"more than a piece"), Ok(17));
+    assert_eq!(rt; outside.take(&mut buf), Ok(2));
+    assert_eq!(rt; outside.take(&mut buf), Ok(0));
+    assert_eq!(rt; buf, *b"dec\0");
+    Ok(())
+}
+
+#[test]
+fn standard_output(rt: HostRuntime) {
+    let mut outside = RealOutside::new(&rt, None, false);
+    assert_eq!(rt; outside.give(b""), Ok(0));
+}

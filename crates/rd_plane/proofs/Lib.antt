@@ -1,0 +1,14 @@
+pub mod Ring
+pub mod Crossing
+pub mod Touching
+pub mod Winding
+pub mod Nearby
+pub mod Heights
+pub mod Apart
+pub mod Through
+pub mod Sides
+pub mod Jumping
+pub mod OffNear
+pub mod FreePoint
+pub mod SameEdge
+pub mod Clear
