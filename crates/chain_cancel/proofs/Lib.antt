@@ -9,6 +9,6 @@ pub mod Ends
 pub mod Faces
 pub mod Mosaic
 pub mod Nodes
-pub mod Example
+pub mod ExampleCancels
 pub mod Places
 pub mod Sorted

@@ -12,3 +12,9 @@ pub mod OffNear
 pub mod FreePoint
 pub mod SameEdge
 pub mod Clear
+pub mod ExampleRings
+pub mod ExampleTriangle
+pub mod ExampleWalls
+pub mod ExampleSquares
+pub mod ExampleHole
+pub mod ExampleEdges
