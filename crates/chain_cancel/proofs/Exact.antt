@@ -7,7 +7,7 @@ use Rattle.std.proofs.lemmas.List.Sums.{sum_by-cons, sum_by-append}
 use Rattle.std.proofs.lemmas.List.Elements.{recursion_from_All, All-from_recursion, All-contains, Contains-get_or}
 use Rattle.rd_plane.specs.Plane.{Vertex, Segment, Point, side, on, off, wind, is_end, reversed}
 use Rattle.rd_plane.specs.Jump.{Near, PassesAlong, Jump, EndsBalance, is_along, is_against}
-use Rattle.rd_plane.proofs.Ring.{linear}
+use Rattle.rd_plane.proofs.Polynomials.{linear}
 use Rattle.rd_plane.proofs.Touching.{On-from_on}
 use Rattle.rd_plane.proofs.Nearby.{Soon, soon_so, both_soon, Near-left, Near-right}
 use Rattle.rd_plane.proofs.Winding.{off-append, off-map_reversed, lies_in-one}

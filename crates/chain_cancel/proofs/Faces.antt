@@ -7,7 +7,7 @@ use Rattle.std.proofs.lemmas.List.Sums.{sum_by-cons}
 use Rattle.std.proofs.lemmas.List.Elements.{recursion_from_All, All-from_recursion, All-contains, Contains-get_or}
 use Rattle.rd_plane.specs.Plane.{Segment, Point, point_of, side, on, off, wind, is_end}
 use Rattle.rd_plane.specs.Jump.{PassesAlong, Jump, EndsBalance, is_along, is_against}
-use Rattle.rd_plane.proofs.Ring.{linear}
+use Rattle.rd_plane.proofs.Polynomials.{linear}
 use Rattle.rd_plane.proofs.Touching.{On-from_on}
 use Rattle.rd_plane.proofs.Nearby.{Soon, Near-left, Near-right}
 use Rattle.rd_plane.proofs.Sides.{heading}

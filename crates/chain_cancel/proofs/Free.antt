@@ -6,7 +6,7 @@ use Rattle.std.proofs.lemmas.Bool.{cases_Bool, both_ways}
 use Rattle.std.proofs.lemmas.List.Sums.{sum_by-cons}
 use Rattle.rd_plane.specs.Plane.{Vertex, Segment, Point, point_of, side, on, off, is_at, is_end, reversed}
 use Rattle.rd_plane.specs.Jump.{LiesAlong, PassesAlong, run, is_along, is_against}
-use Rattle.rd_plane.proofs.Ring.{linear, one-mul}
+use Rattle.rd_plane.proofs.Polynomials.{linear, one-mul}
 use Rattle.rd_plane.proofs.Crossing.{side-reversed}
 use Rattle.rd_plane.proofs.Touching.{On-from_on, on_from_On, on-reversed}
 use Rattle.rd_plane.proofs.Nearby.{Soon, soon_so, both_soon, always}

@@ -6,7 +6,7 @@ use Rattle.std.proofs.lemmas.Bool.{cases_Bool, both_ways}
 use Rattle.std.proofs.lemmas.List.Elements.{recursion_from_All, All-from_recursion, All-contains, Contains-get_or}
 use Rattle.rd_plane.specs.Plane.{Segment, Point, side, on, off, wind, is_end, reversed}
 use Rattle.rd_plane.specs.Jump.{Near}
-use Rattle.rd_plane.proofs.Ring.{linear, by_sign}
+use Rattle.rd_plane.proofs.Polynomials.{linear, by_sign}
 use Rattle.rd_plane.proofs.Crossing.{side-reversed}
 use Rattle.rd_plane.proofs.Touching.{On-from_on, on_from_On, on-reversed}
 use Rattle.rd_plane.proofs.Nearby.{Soon, soon_so, both_soon, always}

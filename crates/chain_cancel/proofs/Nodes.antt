@@ -4,7 +4,7 @@ use Rattle.std.specs.Prelude.{ℤ, pos, ◌+ℤ◌, neg_ℤ, true, ◌≢◌, �
 use Rattle.std.specs.List.{All, AllByRecursion, Contains, flat_map}
 use Rattle.std.proofs.lemmas.List.Elements.{recursion_from_All, Contains-append_cases}
 use Rattle.rd_plane.specs.Plane.{Vertex, Segment, Point, side, wind, off, reversed}
-use Rattle.rd_plane.proofs.Ring.{linear}
+use Rattle.rd_plane.proofs.Polynomials.{linear}
 use Rattle.rd_plane.proofs.Winding.{wind-append, wind-map_reversed, off-map_reversed}
 use Rattle.rd_plane.specs.Plane.{same_segment}
 use Rattle.rd_plane.specs.Shapes.{shape_edges, all_edges, IsSoundShape}

@@ -1,4 +1,4 @@
-pub mod Ring
+pub mod Polynomials
 pub mod Crossing
 pub mod Touching
 pub mod Winding
@@ -18,3 +18,4 @@ pub mod ExampleWalls
 pub mod ExampleSquares
 pub mod ExampleHole
 pub mod ExampleEdges
+pub mod ExampleFaults
