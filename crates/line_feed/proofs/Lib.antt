@@ -1,0 +1,3 @@
+pub mod FirstText
+pub mod Cutting
+pub mod Examples
