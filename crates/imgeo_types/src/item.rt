@@ -47,22 +47,12 @@ impl Item {
     }
 }
 
-fn copy_ring(alloc: Global, ring: &Ring) -> Result<Ring, NoMemory>
-    ensures { IfOk result (λ copy. copy ≡ ring.now) }
-{
-    let mut copy = Ring::new(alloc);
-    for corner in ring.as_slice() {
-        copy.push(*corner)?;
-    }
-    Ok(copy)
-}
-
 fn copy_rings(alloc: Global, rings: &Rings) -> Result<Rings, NoMemory>
     ensures { IfOk result (λ copy. copy ≡ rings.now) }
 {
     let mut copy = Rings::new(alloc);
     for ring in rings.as_slice() {
-        copy.push(copy_ring(alloc, ring)?)?;
+        copy.push(Ring::from_slice(alloc, ring.as_slice())?)?;
     }
     Ok(copy)
 }
