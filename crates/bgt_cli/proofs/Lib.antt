@@ -1,2 +1,5 @@
-pub mod Taking
-pub mod Answering
+pub mod Going
+pub mod Cutting
+pub mod Counting
+pub mod Pieces
+pub mod Ending

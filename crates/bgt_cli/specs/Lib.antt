@@ -1,4 +1,5 @@
 pub mod Status
-pub mod Answer
 pub mod Stream
+pub mod Session
 pub mod Clause
+pub mod Stops

@@ -1,106 +1,276 @@
 //! The worked rows of the command `check`, and what other words do.
 
+use crate::messages::{
+    BENT, CROSSING, DOUBLED, ENDED, FAR, FIRST, GAP, HALVES, LESS, NOTHING, OLD, OPEN, OTHER,
+    OTHER_AGAIN, TOO_FAR,
+};
 use crate::run_without_faults;
 use bgt_cli::{Status, run};
 use message_text::Limits;
 use outside::MemOutside;
-use std::alloc::Global;
+use std::alloc::{AllocError, Global};
 use std::test::Fail;
 
-/// The smallest map: one part that fills a square area.
-pub const FIRST: &str = "BERICHT G0001 2024-01-01T00:00:01
-GEBIED
-RING 100000 400000 100010 400000 100010 400010 100000 400010
-T G0001.00000000000000000000000000000001 onbegroeid_terreindeel 0 2024-01-01 fysiekVoorkomen=erf
-RING 100000 400000 100010 400000 100010 400010 100000 400010
-EINDE
-";
-
-/// Two parts beside each other, with a common border of one edge.
-const HALVES: &str = "BERICHT G0001 2024-01-01T00:00:01
-GEBIED
-RING 100000.000 400000.000 100005.000 400000.000 100010.000 400000.000 100010.000 400010.000 100005.000 400010.000 100000.000 400010.000
-T G0001.00000000000000000000000000000001 onbegroeid_terreindeel 0 2024-01-01 fysiekVoorkomen=erf
-RING 100000.000 400000.000 100005.000 400000.000 100005.000 400010.000 100000.000 400010.000
-T G0001.00000000000000000000000000000002 onbegroeid_terreindeel 0 2024-01-01 fysiekVoorkomen=erf
-RING 100005.000 400000.000 100010.000 400000.000 100010.000 400010.000 100005.000 400010.000
-EINDE
-";
-
-/// The two parts with a gap of one millimetre between them.
-const GAP: &str = "BERICHT G0001 2024-01-01T00:00:01
-GEBIED
-RING 100000.000 400000.000 100005.000 400000.000 100010.000 400000.000 100010.000 400010.000 100005.000 400010.000 100000.000 400010.000
-T G0001.00000000000000000000000000000001 onbegroeid_terreindeel 0 2024-01-01 fysiekVoorkomen=erf
-RING 100000.000 400000.000 100005.000 400000.000 100006.000 400005.000 100005.000 400010.000 100000.000 400010.000
-T G0001.00000000000000000000000000000002 onbegroeid_terreindeel 0 2024-01-01 fysiekVoorkomen=erf
-RING 100005.000 400000.000 100010.000 400000.000 100010.000 400010.000 100005.000 400010.000 100006.001 400005.000
-EINDE
-";
-
-/// The smallest map with its part twice.
-const TWICE: &str = "BERICHT G0001 2024-01-01T00:00:01
-GEBIED
-RING 100000 400000 100010 400000 100010 400010 100000 400010
-T G0001.00000000000000000000000000000001 onbegroeid_terreindeel 0 2024-01-01 fysiekVoorkomen=erf
-RING 100000 400000 100010 400000 100010 400010 100000 400010
-T G0001.00000000000000000000000000000002 onbegroeid_terreindeel 0 2024-01-01 fysiekVoorkomen=erf
-RING 100000.000 400000.000 100010.000 400000.000 100010.000 400010.000 100000.000 400010.000
-EINDE
-";
-
-/// An area with no part.
-const BARE: &str = "BERICHT G0001 2024-01-01T00:00:01
-GEBIED
-RING 100000 400000 100010 400000 100010 400010 100000 400010
-EINDE
-";
+/// These texts, one behind the other.
+pub fn joined(alloc: Global, texts: &[&str]) -> Result<String, AllocError> {
+    let mut stream = String::new(alloc);
+    for text in texts {
+        stream.push_str(text)?;
+    }
+    Ok(stream)
+}
 
 /// What a run tells, and how it ends, where no call fails.
 pub fn answered(
     alloc: Global,
     words: &[&str],
-    input: &str,
+    limits: &Limits,
+    input: &[u8],
     piece: usize,
 ) -> Result<(Vec<u8>, Status), Fail> {
     let piece = piece.max(1);
-    let mut outside = MemOutside::new(alloc, input.as_bytes(), piece, &[], None, 1 << 20)?;
-    let status = run(alloc, words, &Limits::standard(), &mut outside);
-    Ok((outside.told().to_vec(alloc)?, status))
+    let mut outside = MemOutside::new(alloc, input, piece, &[], None, 1 << 20)?;
+    let ends = if limits.is_valid() {
+        run(alloc, words, limits, &mut outside)
+    } else {
+        Status::Usage
+    };
+    Ok((outside.told().to_vec(alloc)?, ends))
 }
+
+/// What `check` tells of an input, and how it ends.
+pub fn checked(alloc: Global, input: &[u8], piece: usize) -> Result<(Vec<u8>, Status), Fail> {
+    answered(alloc, &["check"], &Limits::standard(), input, piece)
+}
+
+const ROWS: &[(&[&str], &str, Status)] = &[
+    (&[], "", Status::Good),
+    (&[FIRST], "1 OK\n", Status::Good),
+    (&[HALVES], "1 OK\n", Status::Good),
+    (
+        &[GAP],
+        "1 E20 TILED 100005.000 400000.000 100006.000 400005.000\n",
+        Status::Refused,
+    ),
+    (
+        &[DOUBLED],
+        "1 E20 TILED 100000.000 400000.000 100010.000 400000.000\n",
+        Status::Refused,
+    ),
+    // Shared vertices are not asked for yet: the chains do not cancel.
+    (
+        &[CROSSING],
+        "1 E20 TILED 100005.000 400000.000 100005.000 400010.000\n",
+        Status::Refused,
+    ),
+    (
+        &[HALVES, BENT, OLD],
+        "1 OK\n2 OK\n3 E11 WAS 1 2024-01-01T00:00:02\n",
+        Status::Refused,
+    ),
+    (
+        &[HALVES, HALVES],
+        "1 OK\n2 E5 STALE 2024-01-01T00:00:01\n",
+        Status::Refused,
+    ),
+    (
+        &[HALVES, OPEN, LESS, ENDED],
+        "1 OK\n2 E20 TILED 100005.000 400000.000 100005.000 400010.000\n3 OK\n4 E9 UNKNOWN 1 2024-01-01T00:00:03\n",
+        Status::Refused,
+    ),
+    (&[FAR], "1 OK\n", Status::Good),
+    (&[TOO_FAR], "1 E2 SYNTAX 3\n", Status::Refused),
+    (
+        &[FIRST, "BERICHT G0001 2024-01-01T00:00:02\nEIN"],
+        "1 OK\nTAIL 37\n",
+        Status::Refused,
+    ),
+    (
+        &[FIRST, NOTHING],
+        "1 OK\n2 E5 STALE 2024-01-01T00:00:01\n",
+        Status::Refused,
+    ),
+    // Two holders, each answered as alone.
+    (
+        &[HALVES, OTHER, BENT, OTHER_AGAIN, OLD],
+        "1 OK\n2 OK\n3 OK\n4 OK\n5 E11 WAS 1 2024-01-01T00:00:02\n",
+        Status::Refused,
+    ),
+    (
+        &[OTHER, HALVES, OTHER, HALVES, OTHER_AGAIN, BENT],
+        "1 OK\n2 OK\n3 E5 STALE 2024-01-01T00:00:01\n4 E5 STALE 2024-01-01T00:00:01\n5 OK\n6 OK\n",
+        Status::Refused,
+    ),
+    (&["\n", FIRST], "1 E2 SYNTAX 1\n", Status::Refused),
+    (
+        &["EINDE\nEINDE\n"],
+        "1 E2 SYNTAX 1\n2 E2 SYNTAX 1\n",
+        Status::Refused,
+    ),
+    (&["x"], "TAIL 1\n", Status::Refused),
+];
 
 #[test]
 fn worked_rows(rt: HostRuntime) -> Result<(), Fail> {
-    let rows = [
-        (FIRST, "1 OK\n", Status::Good),
-        (HALVES, "1 OK\n", Status::Good),
-        (
-            GAP,
-            "1 E20 TILED 100005.000 400000.000 100006.000 400005.000\n",
-            Status::Refused,
-        ),
-        (
-            TWICE,
-            "1 E20 TILED 100000.000 400000.000 100010.000 400000.000\n",
-            Status::Refused,
-        ),
-        (
-            BARE,
-            "1 E20 TILED 100000.000 400000.000 100000.000 400010.000\n",
-            Status::Refused,
-        ),
-        ("", "1 E0 NARROW\n", Status::Refused),
-    ];
-    for (row, (input, line, ends)) in rows.iter().enumerate() {
-        for piece in [1, 7, 1 << 20] {
-            let (told, status) = answered(rt.alloc(), &["check"], input, piece)?;
+    for (row, (texts, lines, ends)) in ROWS.iter().enumerate() {
+        let stream = joined(rt.alloc(), texts)?;
+        for piece in [1, 7, 64, 1 << 20] {
+            let (told, status) = checked(rt.alloc(), stream.as_bytes(), piece)?;
             assert_eq!(rt;
                 told.as_slice(),
-                line.as_bytes(),
+                lines.as_bytes(),
                 "row {row} in pieces of {piece}"
             );
             assert_eq!(rt; status, *ends, "row {row} in pieces of {piece}");
         }
+    }
+    Ok(())
+}
+
+#[test]
+fn any_chunking(rt: HostRuntime) -> Result<(), Fail> {
+    let stream = joined(rt.alloc(), &[NOTHING, "X\nEINDE\n", NOTHING, "EIND"])?;
+    let lines = b"1 OK\n2 E2 SYNTAX 1\n3 E5 STALE 2024-01-01T00:00:01\nTAIL 4\n";
+    for piece in 1..=stream.len() {
+        let (told, status) = checked(rt.alloc(), stream.as_bytes(), piece)?;
+        assert_eq!(rt; told.as_slice(), lines.as_slice(), "pieces of {piece}");
+        assert_eq!(rt; status, Status::Refused, "pieces of {piece}");
+    }
+    Ok(())
+}
+
+// A second message behind the two halves, and its reply.
+const SECOND: &[(&str, &str)] = &[
+    (
+        "BERICHT G0001 2024-01-01T00:00:02
+T G0002.00000000000000000000000000000001 onbegroeid_terreindeel 0 2024-01-01 fysiekVoorkomen=erf
+RING 100000.000 400000.000 100010.000 400000.000 100010.000 400010.000 100000.000 400010.000
+EINDE
+",
+        "2 E7 PREFIX 1\n",
+    ),
+    (
+        "BERICHT G0001 2024-01-01T00:00:02
+T G0001.00000000000000000000000000000001 onbegroeid_terreindeel 0 2024-01-01 fysiekVoorkomen=erf
+RING 100000.000 400000.000 100010.000 400000.000 100010.000 400010.000 100000.000 400010.000
+EINDE
+",
+        "2 E8 KNOWN 1\n",
+    ),
+    (
+        "BERICHT G0001 2024-01-01T00:00:02
+W G0001.00000000000000000000000000000009 2024-01-01T00:00:01 onbegroeid_terreindeel 0 2024-01-01 fysiekVoorkomen=erf
+RING 100000.000 400000.000 100010.000 400000.000 100010.000 400010.000 100000.000 400010.000
+EINDE
+",
+        "2 E9 UNKNOWN 1 -\n",
+    ),
+    (
+        "BERICHT G0001 2024-01-01T00:00:02
+W G0001.00000000000000000000000000000001 2024-01-01T00:00:01 pand 0 2024-01-01
+RING 100000.000 400000.000 100010.000 400000.000 100010.000 400010.000 100000.000 400010.000
+EINDE
+",
+        "2 E12 KIND 1 onbegroeid_terreindeel\n",
+    ),
+    (
+        "BERICHT G0001 2024-01-01T00:00:02
+T G0001.00000000000000000000000000000003 pand 0 2024-01-02
+RING 100000.000 400000.000 100010.000 400000.000 100010.000 400010.000 100000.000 400010.000
+EINDE
+",
+        "2 E14 DAYS 1\n",
+    ),
+    (
+        "BERICHT G0001 2024-01-01T00:00:02
+V G0001.00000000000000000000000000000001 2024-01-01T00:00:01 2024-01-01
+V G0001.00000000000000000000000000000001 2024-01-01T00:00:01 2024-01-01
+EINDE
+",
+        "2 E6 TWICE 2\n",
+    ),
+    (
+        "BERICHT G0002 2024-01-01T00:00:02
+V G0001.00000000000000000000000000000001 2024-01-01T00:00:01 2024-01-01
+EINDE
+",
+        "2 E10 OWNER 1 G0001\n",
+    ),
+    (
+        "BERICHT G0001 2024-01-01T00:00:02
+V G0001.00000000000000000000000000000001 2024-01-01T00:00:02 2024-01-01
+EINDE
+",
+        "2 E11 WAS 1 2024-01-01T00:00:01\n",
+    ),
+    (
+        "BERICHT G0001 2024-01-01T00:00:02
+V G0001.00000000000000000000000000000001 2024-01-01T00:00:01 2023-12-31
+EINDE
+",
+        "2 E14 DAYS 1\n",
+    ),
+    (
+        "BERICHT G0001 2024-01-01T00:00:02
+V G0001.00000000000000000000000000000001 2024-01-01T00:00:01 2024-01-02
+EINDE
+",
+        "2 E14 DAYS 1\n",
+    ),
+    (
+        "BERICHT G0001 2024-01-01T00:00:02
+W G0001.00000000000000000000000000000001 2024-01-01T00:00:01 onbegroeid_terreindeel 0 2024-01-02 fysiekVoorkomen=erf
+RING 100000.000 400000.000 100010.000 400000.000 100010.000 400010.000 100000.000 400010.000
+EINDE
+",
+        "2 E14 DAYS 1\n",
+    ),
+    (
+        "BERICHT G0001 2024-01-01T00:00:01
+EINDE
+",
+        "2 E5 STALE 2024-01-01T00:00:01\n",
+    ),
+    (
+        "BERICHT G0001 2024-01-01T00:00:02
+W G0001.00000000000000000000000000000001 2024-01-01T00:00:01 onbegroeid_terreindeel 0 2024-01-01 fysiekVoorkomen=erf
+RING 100000.000 400000.000 100010.000 400000.000
+EINDE
+",
+        "2 E0 NARROW\n",
+    ),
+    (
+        "BERICHT G0001 2024-01-01T00:00:02
+W G0001.00000000000000000000000000000001 2024-01-01T00:00:01 onbegroeid_terreindeel 0 2024-01-01 fysiekVoorkomen=erf
+RING 100000.000 400000.000 100010.000 400000.000 100000.000 400000.000 100000.000 400010.000
+EINDE
+",
+        "2 E0 NARROW\n",
+    ),
+    (
+        "BERICHT G0001 2024-01-01T00:00:02
+GEBIED
+RING 100000.000 400000.000 100005.000 400000.000 100010.000 400000.000 100010.000 400010.000 100005.000 400010.000 100000.000 400010.000
+EINDE
+",
+        "2 OK\n",
+    ),
+    (
+        "BERICHT G0001 2024-01-01T00:00:02
+GEBIED
+EINDE
+",
+        "2 E20 TILED 100000.000 400000.000 100005.000 400000.000\n",
+    ),
+];
+
+#[test]
+fn second_messages(rt: HostRuntime) -> Result<(), Fail> {
+    for (row, (message, line)) in SECOND.iter().enumerate() {
+        let stream = joined(rt.alloc(), &[HALVES, message])?;
+        let (told, _) = checked(rt.alloc(), stream.as_bytes(), 1 << 16)?;
+        let lines = joined(rt.alloc(), &["1 OK\n", line])?;
+        assert_eq!(rt; told.as_slice(), lines.as_bytes(), "row {row}");
     }
     Ok(())
 }
@@ -116,7 +286,7 @@ fn other_words(rt: HostRuntime) -> Result<(), Fail> {
         &["load", "F"],
     ];
     for (row, words) in lists.iter().enumerate() {
-        let (told, status) = answered(rt.alloc(), words, FIRST, 3)?;
+        let (told, status) = answered(rt.alloc(), words, &Limits::standard(), FIRST.as_bytes(), 3)?;
         assert_eq!(rt; told.as_slice(), b"USAGE\n".as_slice(), "words {row}");
         assert_eq!(rt; status, Status::Usage, "words {row}");
     }

@@ -1,14 +1,15 @@
 //! A failing call at each place of a run, and an input as long as its limit.
 
-use crate::check::FIRST;
+use crate::check::joined;
+use crate::messages::FIRST;
 use bgt_cli::{Status, run};
 use message_text::Limits;
 use outside::MemOutside;
 use std::alloc::Global;
 use std::test::Fail;
 
-// The run of `check` on the smallest map takes its 266 bytes in three pieces and an empty one, and tells the 5 bytes
-// of its line in one.
+// The run of `check` on the smallest map takes its 266 bytes in three pieces, tells the 5 bytes of its line in one, and
+// takes once more to meet the end.
 const PIECE: usize = 100;
 
 const LINE: &[u8] = b"1 OK\n";
@@ -27,8 +28,8 @@ fn each_call_fails(rt: HostRuntime) -> Result<(), Fail> {
         (1, 0, Status::ReadFault),
         (2, 0, Status::ReadFault),
         (3, 0, Status::ReadFault),
-        (4, 0, Status::ReadFault),
-        (5, 0, Status::WriteFault),
+        (4, 0, Status::WriteFault),
+        (5, 5, Status::ReadFault),
         (6, 5, Status::Good),
     ];
     for (call, bytes, ends) in rows {
@@ -41,9 +42,9 @@ fn each_call_fails(rt: HostRuntime) -> Result<(), Fail> {
 
 #[test]
 fn each_give_of_a_byte_fails(rt: HostRuntime) -> Result<(), Fail> {
-    // In one-byte pieces there are 266 takes and the empty one, and then five gives.
+    // In one-byte pieces there are 266 takes, then five gives, and then the take that meets the end.
     for bytes in 0..5usize {
-        let (told, status) = failing(rt.alloc(), 268 + bytes as u64, 1)?;
+        let (told, status) = failing(rt.alloc(), 267 + bytes as u64, 1)?;
         assert_eq!(rt; told.as_slice(), &LINE[..bytes], "byte {bytes}");
         assert_eq!(rt; status, Status::WriteFault, "byte {bytes}");
     }
@@ -55,8 +56,8 @@ fn all_calls_stop(rt: HostRuntime) -> Result<(), Fail> {
     // No call after this one is answered: bytes of the line that are told, and the status.
     let rows = [
         (0, 0, Status::ReadFault),
-        (3, 0, Status::ReadFault),
-        (4, 0, Status::WriteFault),
+        (3, 0, Status::WriteFault),
+        (4, 5, Status::ReadFault),
         (5, 5, Status::Good),
     ];
     for (stop, bytes, ends) in rows {
@@ -107,12 +108,27 @@ fn input_as_long_as_the_limit(rt: HostRuntime) -> Result<(), Fail> {
         let mut outside = MemOutside::new(rt.alloc(), input, 64, &[], None, 1 << 20)?;
         let status = run(rt.alloc(), &["check"], &limits, &mut outside);
         assert_eq!(rt; status, ends, "{input_bytes} bytes");
-        let line = if input_bytes == 267 {
+        let line = if input_bytes >= 266 {
             LINE
         } else {
             b"".as_slice()
         };
         assert_eq!(rt; outside.told(), line, "{input_bytes} bytes");
     }
+    Ok(())
+}
+
+#[test]
+fn no_reply_waits_for_the_next_piece(rt: HostRuntime) -> Result<(), Fail> {
+    // The source stops behind the last byte of the smallest map: its line was told before another byte was asked for.
+    let stream = joined(
+        rt.alloc(),
+        &[FIRST, "BERICHT G0001 2024-01-01T00:00:02\nEIN"],
+    )?;
+    let stop = FIRST.len() as u64 + 5;
+    let mut outside = MemOutside::new(rt.alloc(), stream.as_bytes(), 1, &[], Some(stop), 1 << 20)?;
+    let status = run(rt.alloc(), &["check"], &Limits::standard(), &mut outside);
+    assert_eq!(rt; outside.told(), LINE);
+    assert_eq!(rt; status, Status::ReadFault);
     Ok(())
 }

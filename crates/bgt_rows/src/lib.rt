@@ -13,4 +13,8 @@ mod check;
 #[cfg(test)]
 mod faults;
 #[cfg(test)]
-mod narrow;
+mod grammar;
+#[cfg(test)]
+mod limits;
+#[cfg(test)]
+mod messages;

@@ -3,7 +3,7 @@ ghost use Rattle.std.specs.Prelude.{◌≡◌, IfOk};
 use crate::code::Code;
 use crate::kind::Kind;
 use field_text::Day;
-use rd_plane::{NoMemory, Ring, Rings};
+use rd_plane::{NoMemory, Rings, copy_rings};
 use std::alloc::Global;
 
 /// What a message says of one object, after the object catalogues BGT and IMGeo, its identification apart. Whether the
@@ -45,14 +45,4 @@ impl Item {
             rings,
         })
     }
-}
-
-fn copy_rings(alloc: Global, rings: &Rings) -> Result<Rings, NoMemory>
-    ensures { IfOk result (λ copy. copy ≡ rings.now) }
-{
-    let mut copy = Rings::new(alloc);
-    for ring in rings.as_slice() {
-        copy.push(Ring::from_slice(alloc, ring.as_slice())?)?;
-    }
-    Ok(copy)
 }

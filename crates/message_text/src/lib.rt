@@ -1,14 +1,30 @@
-//! Text: the limits of a run, and the text of a message read into areas and parts.
+//! Text: the limits of a run, and the texts of messages, read and printed.
 //!
-//! A middle layer, over the plane. It keeps the numbers that bound a run, and the form of each line, field and byte
-//! of a text. It promises that a text is read exactly where it has that form, and in one way only. It knows no
-//! holder's history, no rule on rings but that their corners differ, and no disk.
+//! A middle layer, over the plane, the fields and the names. It keeps which lines a message has, how each line is spelled,
+//! and the numbers that bound a run. It promises that a text is read exactly where the grammar has it, with the line of
+//! each fault exact, that a message has one canonical text, and that this text is read back. It knows no holder's history,
+//! no rule on rings and codes, and no disk.
 #![tactic(auto)]
 
+mod draft;
+mod fault;
 mod fields;
+mod item_line;
 pub mod laws;
+mod level;
+mod limited;
 mod limits;
-mod narrow;
+mod line;
+mod message;
+mod print;
+mod print_fields;
+mod print_line;
+mod read;
+mod ring_line;
+mod token;
 
+pub use fault::{LimitName, TextFault};
 pub use limits::Limits;
-pub use narrow::{NarrowFault, NarrowMap, read_narrow};
+pub use message::{Message, Mutation, Mutations};
+pub use print::print_message;
+pub use read::read_message;

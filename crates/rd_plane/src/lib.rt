@@ -4,6 +4,7 @@
 //! It knows no message, no holder and no kind.
 #![tactic(auto)]
 
+mod copies;
 mod edge;
 pub mod laws;
 mod listed;
@@ -11,8 +12,9 @@ mod memory;
 mod point;
 mod rings;
 
+pub use copies::{copy_rings, copy_shapes};
 pub use edge::Edge;
 pub use listed::{Edges, Listed, Ring, Rings, Shapes, Text};
 pub use memory::NoMemory;
 pub use point::Pt;
-pub use rings::edges_of;
+pub use rings::{edges_of, push_shape};

@@ -31,7 +31,8 @@ fn push_ring(edges: &mut Edges, ring: &[Pt]) -> Result<(), NoMemory>
     push_edge(edges, from, *first)
 }
 
-fn push_shape(edges: &mut Edges, rings: &Rings) -> Result<(), NoMemory>
+/// Adds the edges of one shape, ring by ring. Linear in the number of corners.
+pub fn push_shape(edges: &mut Edges, rings: &Rings) -> Result<(), NoMemory>
     requires { All HasCorners rings.now }
     ensures { OnOk result (edges.new ≡ edges.old ++ shape_edges rings.now) }
 {

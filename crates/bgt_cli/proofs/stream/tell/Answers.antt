@@ -1,6 +1,6 @@
-use Rattle.std.proofs.Common.{◌++◌, ◌∙◌, take, arith, append_assoc}
+use Rattle.std.proofs.Common.{◌++◌, ◌∙◌, take, arith, append_assoc, sym, ap}
 use Rattle.std.proofs.lemmas.List.{take-append-drop}
-use Rattle.bgt_cli.proofs.Taking.{Tells-join, Tells-given, untouched}
+use Rattle.bgt_cli.proofs.Going.{goes_on, given}
 use Rattle.bgt_cli.proofs.stream.tell.Goals as goal
 
 pub loop-rest-preserved : goal.loop-rest-preserved
@@ -14,8 +14,7 @@ loop-rest-preserved g c =
       told = (
         before.0 ++ now,
         rw (append_assoc, c.split_at.ensures.back, take-append-drop) before.1,
-        Tells-join old mid new before.0 now before.2 (Tells-given mid new now c.in_ok-n.ensures.content.more),
+        goes_on 0 0 before.0 now old mid new before.2 (given mid new now c.in_ok-n.ensures.content.more),
       );
-      input = untouched mid new _ c.in_ok-n.ensures.content.more ∙ c.loop-rest.invariant.input;
       counts = record { reads = omega (arith, c.in_ok-n.ensures.cause.later.reads); writes = omega (arith, c.in_ok-n.ensures.cause.later.writes) };
     }

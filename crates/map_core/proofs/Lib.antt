@@ -1,0 +1,10 @@
+pub mod Different
+pub mod Finding
+pub mod Untouched
+pub mod InTurn
+pub mod Cornered
+pub mod Deciding
+pub mod InPlace
+pub mod Standing
+pub mod Telling
+pub mod OneDecision

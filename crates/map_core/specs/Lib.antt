@@ -1,0 +1,9 @@
+pub mod State
+pub mod After
+pub mod Rules
+pub mod Steps
+pub mod Kept
+pub mod Applying
+pub mod Tried
+pub mod Runs
+pub mod Replies

@@ -1,0 +1,4 @@
+pub mod LastPlace
+pub mod Newest
+pub mod Changes
+pub mod Indexing

@@ -1,0 +1,4 @@
+pub mod Versions
+pub mod Sound
+pub mod Places
+pub mod Indexed
