@@ -103,6 +103,8 @@ const CHANGES: &[(&str, &str, &str)] = &[
     ("deel 0", "deel -0", "1 OK\n"),
     ("deel 0", "deel -000", "1 OK\n"),
     ("deel 0", "deel 0000", "1 E2 SYNTAX 4\n"),
+    ("deel 0", "deel 100", "1 E13 ITEM 1 level\n"),
+    ("deel 0", "deel -100", "1 E13 ITEM 1 level\n"),
     ("deel 0", "deel +0", "1 E2 SYNTAX 4\n"),
     ("deel 0", "deel", "1 E2 SYNTAX 4\n"),
     (
@@ -119,7 +121,26 @@ const CHANGES: &[(&str, &str, &str)] = &[
     ("deel 0 2024-01-01 ", "deel 0 2000-02-29 ", "1 OK\n"),
     ("deel 0 2024-01-01 ", "deel 0 2024-1-1 ", "1 E2 SYNTAX 4\n"),
     ("deel 0 2024-01-01 ", "deel 0 0000-01-01 ", "1 OK\n"),
-    (" fysiekVoorkomen=erf", "", "1 OK\n"),
+    (
+        " fysiekVoorkomen=erf",
+        "",
+        "1 E13 ITEM 1 missing fysiekVoorkomen\n",
+    ),
+    (
+        " fysiekVoorkomen=erf",
+        " fysiekVoorkomen=Erf",
+        "1 E13 ITEM 1 code fysiekVoorkomen\n",
+    ),
+    (
+        " fysiekVoorkomen=erf",
+        " fysiekVoorkomen=erf type=erf",
+        "1 E13 ITEM 1 code type\n",
+    ),
+    (
+        " fysiekVoorkomen=erf",
+        " fysiekVoorkomen=erf bagpnd=0123456789012345",
+        "1 E13 ITEM 1 bagpnd\n",
+    ),
     (
         " fysiekVoorkomen=erf",
         " fysiekVoorkomen=",
@@ -128,7 +149,7 @@ const CHANGES: &[(&str, &str, &str)] = &[
     (
         " fysiekVoorkomen=erf",
         " functie=a fysiekVoorkomen=b type=c bagpnd=d",
-        "1 OK\n",
+        "1 E13 ITEM 1 code functie\n",
     ),
     (
         " fysiekVoorkomen=erf",

@@ -1,2 +1,4 @@
 pub mod Words
+pub mod RightItems
 mod Examples
+mod ExampleItems

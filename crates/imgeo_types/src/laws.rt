@@ -1,5 +1,5 @@
 //! The laws of names: their order, one kind for a word, a holder in front of each identification, and no space or end
-//! of a line in a name.
+//! of a line in a name. The law of items: which ones have no fault.
 
 ghost use Rattle.std.specs.Prelude.{◌≡◌, ℕ, List};
 ghost use Rattle.std.specs.Ordering.{nat_cmp};
@@ -9,9 +9,12 @@ ghost use Rattle.field_text.specs.Forms.{IsFieldByte};
 ghost use Rattle.imgeo_types.specs.declared.kind.Kind.{Kind};
 ghost use Rattle.imgeo_types.specs.Fields.{IsHolder, IsIdent, IsCode, holder_of};
 ghost use Rattle.imgeo_types.specs.Kinds.{word_of};
+ghost use Rattle.imgeo_types.specs.declared.item.Item.{Item};
+ghost use Rattle.imgeo_types.specs.ItemRule.{IsRight, item_fault};
 
 use crate::holder::Holder;
 use crate::ident::Ident;
+use code_tables::laws::name_of_place;
 
 /// A word is of one kind at most.
 pub fn one_kind()
@@ -36,3 +39,11 @@ pub fn names_are_solid()
     ensures code { (field : List ℕ) → IsCode field → All IsFieldByte field }
     ensures kind { (kind : Kind) → All IsFieldByte (word_of kind) }
 {}
+
+/// An item has no fault exactly where it is right by the catalogue.
+pub fn right_items_have_no_fault()
+    ensures right { (item : Item) → IsRight item → item_fault item ≡ None }
+    ensures no_fault { (item : Item) → item_fault item ≡ None → IsRight item }
+{
+    name_of_place();
+}

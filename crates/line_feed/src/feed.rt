@@ -1,10 +1,11 @@
-ghost use Rattle.std.specs.Prelude.{◌≡◌, ◌≤◌, ◌++◌, ℕ, [], length, IfOk, OnOk, OnErr};
+ghost use Rattle.std.specs.Prelude.{◌≡◌, ◌≤◌, ◌+◌, ◌++◌, ℕ, [], length, take, drop, IfOk, OnOk, OnErr};
 ghost use Rattle.line_feed.specs.Texts.{Hands, IsFirstText};
 
 use crate::end::first_end;
 use rd_plane::{NoMemory, Text};
 use std::alloc::Global;
 use std::marker::Model;
+use std::mem::replace;
 
 /// A text of the stream.
 #[derive(Debug, Drop)]
@@ -36,6 +37,15 @@ impl Model for Feed {
     ghost view = { λ f. record { limit = f.limit; left = drop f.start f.bytes.items } };
 
     ghost invariant = { λ f. (f.start + f.looked ≤ length f.bytes.items) × HasNoText (drop f.start f.bytes.items) f.looked };
+}
+
+// Leaves the n bytes from `start` on, and lets go of the others.
+fn cut_out(bytes: &mut Vec<u8>, start: usize, n: usize)
+    requires { start + n ≤ length bytes.old.items }
+    ensures { bytes.new.items ≡ take n (drop start bytes.old.items) }
+{
+    bytes.copy_within(start.., 0);
+    bytes.truncate(n);
 }
 
 impl Feed {
@@ -85,6 +95,30 @@ impl Feed {
         Ok(())
     }
 
+    // Hands out the first n bytes of what is left. A text that is no shorter than what is behind it goes out with the memory
+    // that it stands in, and what is behind it is copied; a shorter one is copied. So no more bytes are copied than are
+    // handed out, and a long text does not stand in memory twice.
+    fn hand_out(&mut self, alloc: Global, n: usize) -> Result<Text, NoMemory>
+        requires { n ≤ length self.old.left }
+        ensures limit { self.new.limit ≡ self.old.limit }
+        ensures ok { IfOk result (λ text. (text ≡ take n self.old.left) × (self.new.left ≡ drop n self.old.left)) }
+        ensures err { OnErr result (self.new.left ≡ self.old.left) }
+    {
+        let end = self.start + n;
+        if n < self.bytes.len() - end {
+            let text = Text::from_slice(alloc, &self.bytes[self.start..end])?;
+            self.start = end;
+            self.looked = 0;
+            return Ok(text);
+        }
+        let behind = Vec::from_slice(alloc, &self.bytes[end..])?;
+        let mut bytes = replace(&mut self.bytes, behind);
+        cut_out(&mut bytes, self.start, n);
+        self.start = 0;
+        self.looked = 0;
+        Ok(Text::from_vec(bytes))
+    }
+
     /// The next text, or `None` where none ends in what is left. Bytes in which no text was found are not searched again,
     /// and what is left behind the text is not moved.
     pub fn next_text(&mut self, alloc: Global) -> Result<Option<Framed>, NoMemory>
@@ -98,13 +132,11 @@ impl Feed {
             self.looked = left.len();
             return Ok(None);
         };
-        let framed = if n as u64 > self.limit {
-            Framed::TooLong
-        } else {
-            Framed::Text(Text::from_slice(alloc, &left[..n])?)
-        };
-        self.start += n;
-        self.looked = 0;
-        Ok(Some(framed))
+        if n as u64 > self.limit {
+            self.start += n;
+            self.looked = 0;
+            return Ok(Some(Framed::TooLong));
+        }
+        Ok(Some(Framed::Text(self.hand_out(alloc, n)?)))
     }
 }

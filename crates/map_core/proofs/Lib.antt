@@ -8,3 +8,4 @@ pub mod InPlace
 pub mod Standing
 pub mod Telling
 pub mod OneDecision
+pub mod OneRun

@@ -54,6 +54,7 @@ one_refusal (refusal.Unknown at (Some ended)) a b h k = one_field (numbered (cod
 one_refusal (refusal.Owner at holder) a b h k = h ∙ sym k
 one_refusal (refusal.Was at kept) a b h k = one_field (numbered (codes "E11 WAS ") at ++ 32 ∷ []) kept a b h k
 one_refusal (refusal.Kind at kind) a b h k = h ∙ sym k
+one_refusal (refusal.Item at fault) a b h k = h ∙ sym k
 one_refusal (refusal.Days at) a b h k = h ∙ sym k
 one_refusal (refusal.Full which) a b h k = h ∙ sym k
 one_refusal (refusal.Tiled edge) a b h k = let same = one_edge edge h.0 k.0 h.1 k.1 in h.2 ∙ (ap (λ (ends : List ℕ). codes "E20 TILED " ++ ends) same ∙ sym k.2)

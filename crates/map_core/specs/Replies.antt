@@ -4,7 +4,9 @@ use Rattle.std.specs.Fmt.{decimal}
 use Rattle.rd_plane.specs.Plane.{Vertex, Segment}
 use Rattle.field_text.specs.Forms.{IsPrintedMoment}
 use Rattle.field_text.specs.Coordinates.{IsPrintedMm}
-use Rattle.imgeo_types.specs.Kinds.{word_of}
+use Rattle.imgeo_types.specs.declared.fault.ItemFault.{ItemFault}
+use Rattle.imgeo_types.specs.declared.fault.ItemFault.TheVariants.{Level, Code, Missing, PandNumber}
+use Rattle.imgeo_types.specs.Kinds.{word_of, attr_word}
 use Rattle.message_text.specs.declared.fault.LimitName.{LimitName}
 use Rattle.message_text.specs.declared.fault.LimitName.TheVariants as limit
 use Rattle.map_core.specs.declared.refusal.Refusal.{Refusal}
@@ -23,6 +25,12 @@ limit_word limit.Area = codes "area"
 abbrev pub full_word : FullName → List ℕ
 full_word Holders = codes "holders"
 full_word Objects = codes "objects"
+
+abbrev pub item_word : ItemFault → List ℕ
+item_word Level = codes "level"
+item_word (Code attr) = codes "code " ++ attr_word attr
+item_word (Missing attr) = codes "missing " ++ attr_word attr
+item_word PandNumber = codes "bagpnd"
 
 -- the words, a number, and nothing behind it
 abbrev pub numbered : List ℕ → ℕ → List ℕ
@@ -56,6 +64,7 @@ IsRefusalText text (refusal.Unknown at (Some ended)) = WithMoment (numbered (cod
 IsRefusalText text (refusal.Owner at holder) = text ≡ numbered (codes "E10 OWNER ") at ++ 32 ∷ holder
 IsRefusalText text (refusal.Was at kept) = WithMoment (numbered (codes "E11 WAS ") at ++ 32 ∷ []) text kept
 IsRefusalText text (refusal.Kind at kind) = text ≡ numbered (codes "E12 KIND ") at ++ 32 ∷ word_of kind
+IsRefusalText text (refusal.Item at fault) = text ≡ numbered (codes "E13 ITEM ") at ++ 32 ∷ item_word fault
 IsRefusalText text (refusal.Days at) = text ≡ numbered (codes "E14 DAYS ") at
 IsRefusalText text (refusal.Full which) = text ≡ codes "E16 FULL " ++ full_word which
 IsRefusalText text (refusal.Tiled edge) = (ends : List ℕ) × IsEdgeText ends edge × (text ≡ codes "E20 TILED " ++ ends)

@@ -1,13 +1,15 @@
 -- Why a message is refused by what the register has, in the order in which the reasons are tried.
-use Rattle.std.specs.Prelude.{◌+◌, ℕ, ℤ, pos, int_lt, int_le, nat_lt, nat_le, Bool, not, ◌&&◌, ◌||◌, List, [], ◌∷◌, ◌++◌, length, count_by, Option, Some, None, is_some, is_none, option_and_then}
+use Rattle.std.specs.Prelude.{◌+◌, ℕ, ℤ, pos, int_lt, int_le, nat_lt, nat_le, Bool, not, ◌&&◌, ◌||◌, List, [], ◌∷◌, ◌++◌, length, count_by, Option, Some, None, is_some, is_none, option_and_then, option_map}
 use Rattle.std.specs.Bool.{if◌then◌else◌}
 use Rattle.std.specs.List.{All, list_any}
 use Rattle.std.specs.Int.{int_div_euclid}
+use Rattle.std.specs.Option.{option_or}
 use Rattle.std.specs.Str.{bytes_eq}
 use Rattle.rd_plane.specs.Rule.{Rule, ◌then◌, Is, Unless}
 use Rattle.rd_plane.specs.Shapes.{HasCorners}
 use Rattle.imgeo_types.specs.declared.item.Item.{Item}
 use Rattle.imgeo_types.specs.Fields.{holder_of}
+use Rattle.imgeo_types.specs.ItemRule.{item_fault}
 use Rattle.imgeo_types.specs.Kinds.{word_of}
 use Rattle.message_text.specs.declared.limits.Limits.{Limits}
 use Rattle.message_text.specs.declared.message.Message.{Message}
@@ -70,9 +72,13 @@ change_fault m at was next last (Some v) = kept_fault m at was v (next v)
 abbrev pub begin_fault : Message → ℕ → Item → Option Refusal
 begin_fault m at item = when (int_lt (day_of m.moment) item.begin) (refusal.Days at) None
 
--- the kind is not the kept version's, or the begin day is too late
+-- the item is wrong by the catalogue, or its begin day is too late
+abbrev pub item_refusal : Message → ℕ → Item → Option Refusal
+item_refusal m at item = option_or (option_map (refusal.Item at) (item_fault item)) (begin_fault m at item)
+
+-- the kind is not the kept version's, or the item is wrong
 abbrev pub kind_fault : Message → ℕ → Item → Version → Option Refusal
-kind_fault m at item v = when (not (bytes_eq (word_of item.kind) (word_of v.item.kind))) (refusal.Kind at v.item.kind) (begin_fault m at item)
+kind_fault m at item v = when (not (bytes_eq (word_of item.kind) (word_of v.item.kind))) (refusal.Kind at v.item.kind) (item_refusal m at item)
 
 -- the end day is earlier than the kept begin day, or later than the day of the message
 abbrev pub end_fault : Message → ℕ → ℤ → Version → Option Refusal
@@ -83,7 +89,7 @@ abbrev pub mutation_fault : List Version → Message → ℕ → Mutation → Op
 mutation_fault versions m at (Add ident item) =
     when (not (bytes_eq (holder_of ident) m.holder)) (refusal.Prefix at)
     (when (is_some (last_of ident versions)) (refusal.Known at)
-    (begin_fault m at item))
+    (item_refusal m at item))
 mutation_fault versions m at (Change ident was item) = change_fault m at was (kind_fault m at item) (last_of ident versions) (current_of ident versions)
 mutation_fault versions m at (End ident was day) = change_fault m at was (end_fault m at day) (last_of ident versions) (current_of ident versions)
 

@@ -18,6 +18,7 @@ mod mutations;
 mod refusal;
 mod register;
 mod reply;
+pub mod run_laws;
 mod tried;
 
 pub use area::AreaVersion;

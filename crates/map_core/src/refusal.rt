@@ -1,5 +1,5 @@
 use field_text::Moment;
-use imgeo_types::{Holder, Kind};
+use imgeo_types::{Holder, ItemFault, Kind};
 use message_text::LimitName;
 use rd_plane::{Edge, NoMemory as OutOfMemory};
 
@@ -42,6 +42,8 @@ pub enum Refusal {
     Was { at: u32, kept: Moment },
     /// The current version is of this kind.
     Kind { at: u32, kind: Kind },
+    /// The item is wrong by the object catalogue: its level, a code, or the number of a building.
+    Item { at: u32, fault: ItemFault },
     /// A day is later than the day of the message, or an end day is earlier than the begin day.
     Days { at: u32 },
     /// The register is full.
@@ -67,6 +69,11 @@ pub enum CoreFault {
 }
 
 impl From<OutOfMemory> for CoreFault {
+    ghost use Rattle.std.specs.Prelude.{◌≡◌};
+    ghost use Rattle.map_core.specs.declared.refusal.CoreFault.TheVariants as fault;
+
+    ghost from_gives = { λ _ e. e ≡ fault.NoMemory };
+
     fn from(_: OutOfMemory) -> Self {
         CoreFault::NoMemory
     }

@@ -5,12 +5,12 @@
 
 ghost use Rattle.std.specs.Prelude.{◌≡◌, ◌≤◌, ◌+◌, ◌++◌, ℕ, List, length};
 ghost use Rattle.map_core.specs.declared.refusal.Refusal.TheVariants as refusal;
-ghost use Rattle.map_core.specs.Replies.{IsAnswerText, IsEdgeText, IsPointText, IsRefusalText, IsReplyLine, WithMoment, full_word, limit_word, numbered};
+ghost use Rattle.map_core.specs.Replies.{IsAnswerText, IsEdgeText, IsPointText, IsRefusalText, IsReplyLine, WithMoment, full_word, item_word, limit_word, numbered};
 
 use crate::line::Line;
 use crate::refusal::{Answer, FullName, Refusal};
 use field_text::{Moment, print_mm, print_moment};
-use imgeo_types::{Holder, Kind};
+use imgeo_types::{Holder, ItemFault, Kind};
 use message_text::LimitName;
 use rd_plane::{Edge, Pt};
 
@@ -143,6 +143,36 @@ fn push_kind(line: &mut Line, at: u32, kind: Kind)
     line.push_bytes(kind.word().as_bytes());
 }
 
+// Adds what is wrong with an item.
+fn push_item_fault(line: &mut Line, fault: ItemFault)
+    requires { length line.old + 23 ≤ 256 }
+    ensures pushed { line.new ≡ line.old ++ item_word fault }
+    ensures len { length line.new ≤ length line.old + 23 }
+{
+    match fault {
+        ItemFault::Level => line.push_bytes(b"level"),
+        ItemFault::Code { attr } => {
+            line.push_bytes(b"code ");
+            line.push_bytes(attr.word().as_bytes());
+        }
+        ItemFault::Missing { attr } => {
+            line.push_bytes(b"missing ");
+            line.push_bytes(attr.word().as_bytes());
+        }
+        ItemFault::PandNumber => line.push_bytes(b"bagpnd"),
+    }
+}
+
+fn push_item(line: &mut Line, at: u32, fault: ItemFault)
+    requires { length line.old ≤ 21 }
+    ensures pushed { (text : List ℕ) × IsRefusalText text (refusal.Item at fault) × (line.new ≡ line.old ++ text) }
+    ensures len { length line.new ≤ length line.old + 200 }
+{
+    push_numbered(line, b"E13 ITEM ", u64::from(at));
+    line.push(b' ');
+    push_item_fault(line, fault);
+}
+
 fn push_full(line: &mut Line, which: FullName)
     requires { length line.old ≤ 21 }
     ensures pushed { (text : List ℕ) × IsRefusalText text (refusal.Full which) × (line.new ≡ line.old ++ text) }
@@ -181,6 +211,7 @@ fn push_refusal(line: &mut Line, refusal: Refusal)
         Refusal::Owner { at, holder } => push_owner(line, at, holder),
         Refusal::Was { at, kept } => push_was(line, at, kept),
         Refusal::Kind { at, kind } => push_kind(line, at, kind),
+        Refusal::Item { at, fault } => push_item(line, at, fault),
         Refusal::Days { at } => push_numbered(line, b"E14 DAYS ", u64::from(at)),
         Refusal::Full { which } => push_full(line, which),
         Refusal::Tiled { edge } => push_tiled(line, edge),
