@@ -1,6 +1,6 @@
 -- Lists of texts that rise: place by place, and from the first text on.
-use Rattle.std.proofs.Common.{◌≡◌, ℕ, zero, suc, ◌<◌, Bool, true, false, List, [], ◌∷◌, Some, ◌&&◌, slice_get, length, get_or, refl, ap, ◌∙◌, arith, sym, ◌-◌, subst, Bor}
-use Rattle.std.proofs.Math.ListN.{get_or-map}
+use Rattle.std.proofs.Common.{◌≡◌, ℕ, zero, suc, ◌<◌, Bool, true, false, List, [], ◌∷◌, Some, ◌&&◌, slice_get, length, get_or, refl, ap, ◌∙◌, arith, sym, ◌-◌, subst, map}
+use Rattle.std.proofs.lemmas.Option.{slice_get_within, slice_get_read, slice_get-map}
 use Rattle.std.specs.Option.{option_map}
 use Rattle.std.specs.Ordering.{nat_cmp, is_lt, is_eq}
 use Rattle.std.specs.Str.{bytes_eq}
@@ -9,7 +9,7 @@ use Rattle.std.specs.declared.cmp.Ordering.{Ordering}
 use Rattle.std.specs.declared.cmp.Ordering.TheVariants.{Less, Equal, Greater}
 use Rattle.std.proofs.lemmas.Cmp.{nat_list_cmp_total}
 use Rattle.std.proofs.lemmas.Map.Text.{is_eq-slice_cmp}
-use Rattle.code_tables.specs.Codes.{texts_of, is_before, leads, rises, place_of}
+use Rattle.code_tables.specs.Codes.{is_before, leads, rises, place_of}
 use Rattle.code_tables.proofs.Places.{first_of_all, stands_behind}
 
 -- both tests hold
@@ -29,38 +29,42 @@ each : (x y : Bool) → (x && y) ≡ true → (x ≡ true) × (y ≡ true)
 each x y p = grind arith
 
 -- texts rise where each stands before the next
-pub rises_from : (texts : List (List ℕ)) → ((k : ℕ) → suc k < length texts → is_before (get_or texts k []) (get_or texts (suc k) []) ≡ true) → rises texts ≡ true
+rises_from : (texts : List (List ℕ)) → ((k : ℕ) (text next : List ℕ) → slice_get texts k ≡ Some text → slice_get texts (suc k) ≡ Some next → is_before text next ≡ true) → rises texts ≡ true
 rises_from [] steps = refl
 rises_from (text ∷ []) steps = refl
 rises_from (text ∷ next ∷ texts) steps =
-    both (is_before text next) (rises (next ∷ texts)) (steps 0 (omega arith)) (rises_from (next ∷ texts) (λ k within. steps (suc k) (omega arith)))
+    both (is_before text next) (rises (next ∷ texts)) (steps 0 text next refl refl) (rises_from (next ∷ texts) (λ k. steps (suc k)))
 
 -- texts do not rise where one does not stand before the next
-pub fails_at : (texts : List (List ℕ)) (k : ℕ) → suc k < length texts → is_before (get_or texts k []) (get_or texts (suc k) []) ≡ false → rises texts ≡ false
-fails_at [] k within step = absurd (omega arith)
-fails_at (text ∷ []) k within step = absurd (omega arith)
-fails_at (text ∷ next ∷ texts) zero within step = one_fails (is_before text next) (rises (next ∷ texts)) step
-fails_at (text ∷ next ∷ texts) (suc k) within step = other_fails (is_before text next) (rises (next ∷ texts)) (fails_at (next ∷ texts) k (omega arith) step)
+fails_at : (texts : List (List ℕ)) (k : ℕ) (text next : List ℕ) → slice_get texts k ≡ Some text → slice_get texts (suc k) ≡ Some next → is_before text next ≡ false → rises texts ≡ false
+fails_at [] k text next at behind step = cc
+fails_at (first ∷ []) k text next at behind step = cc
+fails_at (first ∷ second ∷ texts) zero text next at behind step = one_fails (is_before first second) (rises (second ∷ texts)) (let begins : first ≡ text = cc in let follows : second ≡ next = cc in cc)
+fails_at (first ∷ second ∷ texts) (suc k) text next at behind step = other_fails (is_before first second) (rises (second ∷ texts)) (fails_at (second ∷ texts) k text next at behind step)
 
 -- the same, place by place with the text before it
-pub rises_by_place : (texts : List (List ℕ)) → ((j : ℕ) → j < length texts → 0 < j → is_before (get_or texts (j - 1) []) (get_or texts j []) ≡ true) → rises texts ≡ true
+pub rises_by_place : (texts : List (List ℕ)) → ((j : ℕ) → j < length texts → 0 < j → (text next : List ℕ) → slice_get texts (j - 1) ≡ Some text → slice_get texts j ≡ Some next → is_before text next ≡ true) → rises texts ≡ true
 rises_by_place texts steps =
-    rises_from texts (λ k within. let e : suc k - 1 ≡ k = omega arith in subst (λ (i : ℕ). is_before (get_or texts i []) (get_or texts (suc k) []) ≡ true) e (steps (suc k) within (omega arith)))
+    rises_from texts (λ k text next at behind. let e : k ≡ suc k - 1 = omega arith in steps (suc k) (slice_get_within texts (suc k) next behind) (omega arith) text next (subst (λ (i : ℕ). slice_get texts i ≡ Some text) e at) behind)
 
 -- and the other way round, place by place
-pub fails_by_place : (texts : List (List ℕ)) (j : ℕ) → j < length texts → 0 < j → is_before (get_or texts (j - 1) []) (get_or texts j []) ≡ false → rises texts ≡ false
-fails_by_place texts zero within above step = absurd (omega arith)
-fails_by_place texts (suc k) within above step =
+pub fails_by_place : (texts : List (List ℕ)) (j : ℕ) → 0 < j → (text next : List ℕ) → slice_get texts (j - 1) ≡ Some text → slice_get texts j ≡ Some next → is_before text next ≡ false → rises texts ≡ false
+fails_by_place texts zero above text next at behind step = absurd (omega arith)
+fails_by_place texts (suc k) above text next at behind step =
     let e : suc k - 1 ≡ k = omega arith in
-    fails_at texts k within (subst (λ (i : ℕ). is_before (get_or texts i []) (get_or texts (suc k) []) ≡ false) e step)
+    fails_at texts k text next (subst (λ (i : ℕ). slice_get texts i ≡ Some text) e at) behind step
 
--- what a read past the end of a list of texts stands for
-abbrev blank : Bor (List ℕ)
-blank = record { ref_ptr = (0, 0); now = [] }
+-- the text of an item that is read at a place
+pub read_text : {T : Type 0} (bytes : T → List ℕ) (items : List T) (k : ℕ) (item : T) → k < length items → item ≡ get_or items k item → slice_get (map bytes items) k ≡ Some (bytes item)
+read_text bytes items k item within at = slice_get-map bytes items k ∙ ap (option_map bytes) (slice_get_read items (length items) k item refl within at)
 
--- texts behind references stand as their bytes do
-pub tested : (texts : List (Bor (List ℕ))) (k j : ℕ) → is_before (get_or (texts_of texts) k []) (get_or (texts_of texts) j []) ≡ is_before (get_or texts k blank).now (get_or texts j blank).now
-tested texts k j = let f : Bor (List ℕ) → List ℕ = λ text. text.now in rw (get_or-map f texts k blank, get_or-map f texts j blank)
+-- a place has one text
+pub same_text : {text other : List ℕ} → Some text ≡ Some other → text ≡ other
+same_text same = cc
+
+-- what a test of two texts says of equal ones
+pub carried : (text next other following : List ℕ) (test answer : Bool) → test ≡ is_before text next → test ≡ answer → text ≡ other → next ≡ following → is_before other following ≡ answer
+carried text next other following test answer is was same also = cc
 
 -- what the test of an order says
 is_less : (o : Ordering) → is_lt o ≡ true → o ≡ Less

@@ -1,13 +1,8 @@
 -- Tables of texts that rise by bytes, and the place of a text in one.
-use Rattle.std.specs.Prelude.{◌≡◌, ◌&&◌, ℕ, Bool, true, List, [], ◌∷◌, Option, IsTrue, length, map, position}
+use Rattle.std.specs.Prelude.{◌&&◌, ℕ, Bool, true, List, [], ◌∷◌, Option, position}
 use Rattle.std.specs.Ordering.{nat_cmp, is_lt}
 use Rattle.std.specs.Cmp.Lexicographic.{slice_cmp}
 use Rattle.std.specs.Str.{bytes_eq}
-use Rattle.std.specs.Borrow.{Bor}
-
--- the bytes of each text
-abbrev pub texts_of : List (Bor (List ℕ)) → List (List ℕ)
-texts_of texts = map (λ text. text.now) texts
 
 -- the first byte that differs decides, and a text stands before what it begins
 abbrev pub is_before : List ℕ → List ℕ → Bool
@@ -22,11 +17,6 @@ leads text (next ∷ texts) = is_before text next
 abbrev pub rises : List (List ℕ) → Bool
 rises [] = true
 rises (text ∷ texts) = leads text texts && rises texts
-
--- so many texts, which rise
-pub record IsTable (count : ℕ) (texts : List (List ℕ)) : Type 0 where
-  pub len : length texts ≡ count
-  pub rising : IsTrue (rises texts)
 
 -- the place of a text among those listed, from 0; none where it is not listed
 abbrev pub place_of : List (List ℕ) → List ℕ → Option ℕ

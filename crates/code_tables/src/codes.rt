@@ -1,23 +1,44 @@
-ghost use Rattle.std.specs.Prelude.{◌≡◌, ◌<◌, ◌≤◌, MatchOption, slice_get};
-ghost use Rattle.code_tables.specs.Codes.{IsTable, texts_of, is_before, rises, place_of};
+ghost use Rattle.std.specs.Prelude.{◌≡◌, ◌<◌, ◌≤◌, List, ℕ, IsTrue, MatchOption, slice_get, map};
+ghost use Rattle.code_tables.specs.Codes.{is_before, rises, place_of};
 
 use std::marker::Model;
 
-/// A table of `N` codes, whose texts rise strictly by bytes, so that each stands in it once. Contracts see the texts.
-#[derive(Debug, Drop)]
-pub struct Codes<const N: usize> {
-    texts: &'static [&'static str],
+/// What a table lists: a text.
+pub trait Text: Copy {
+    ghost bytes: { Self → List ℕ };
+
+    /// The text itself.
+    fn text(&self) -> &str
+        ensures { result.now ≡ bytes self.now };
 }
 
-impl<const N: usize> Model for Codes<N> {
-    ghost use Rattle.std.specs.Prelude.{List, ℕ};
-    ghost use Rattle.code_tables.specs.Codes.{IsTable, texts_of};
+impl Text for &'static str {
+    ghost bytes = { λ text. text.now };
+
+    fn text(&self) -> &str {
+        *self
+    }
+}
+
+/// A table of `N` texts that rise strictly by bytes, so that each stands in it once. Contracts see the texts.
+// It is over any type of texts, since no proof covers an array of `&str` whose length is a parameter.
+#[derive(Debug, Drop)]
+pub struct Listed<T: Text, const N: usize> {
+    texts: [T; N],
+}
+
+/// A table of `N` codes.
+pub type Codes<const N: usize> = Listed<&'static str, N>;
+
+impl<T: Text, const N: usize> Model for Listed<T, N> {
+    ghost use Rattle.std.specs.Prelude.{List, ℕ, IsTrue, map};
+    ghost use Rattle.code_tables.specs.Codes.{rises};
 
     ghost Value = { List (List ℕ) };
 
-    ghost view = { λ c. texts_of c.texts.now };
+    ghost view = { λ c. map T.bytes c.texts };
 
-    ghost invariant = { λ c. IsTable N (texts_of c.texts.now) };
+    ghost invariant = { λ c. IsTrue (rises (map T.bytes c.texts)) };
 }
 
 // Whether the text stands before the next: the first byte that differs decides.
@@ -28,11 +49,11 @@ fn stands_before(text: &str, next: &str) -> bool
 }
 
 // Whether each text stands before the next.
-fn are_rising(texts: &[&str]) -> bool
-    ensures { result ≡ rises (texts_of texts.now) }
+fn are_rising<T: Text>(texts: &[T]) -> bool
+    ensures { result ≡ rises (map T.bytes texts.now) }
 {
     for place in 1..texts.len() {
-        if !stands_before(texts[place - 1], texts[place]) {
+        if !stands_before(texts[place - 1].text(), texts[place].text()) {
             return false;
         }
     }
@@ -40,42 +61,42 @@ fn are_rising(texts: &[&str]) -> bool
 }
 
 // The place of the text among these.
-fn place_among(texts: &[&str], text: &[u8]) -> Option<usize>
-    ensures { result ≡ place_of (texts_of texts.now) text.now }
+fn place_among<T: Text>(texts: &[T], text: &[u8]) -> Option<usize>
+    ensures { result ≡ place_of (map T.bytes texts.now) text.now }
 {
     for (place, code) in texts.iter().enumerate() {
-        if code.as_bytes() == text {
+        if code.text().as_bytes() == text {
             return Some(place);
         }
     }
     None
 }
 
-impl<const N: usize> Codes<N> {
-    /// The table of these texts. `None` exactly where there are not `N`, or they do not rise strictly by bytes.
-    pub fn new(texts: &'static [&'static str]) -> Option<Codes<N>>
-        ensures { MatchOption result (¬ IsTable N (texts_of texts.now)) (λ codes. codes ≡ texts_of texts.now) }
+impl<T: Text, const N: usize> Listed<T, N> {
+    /// The table of these texts. `None` exactly where they do not rise strictly by bytes.
+    pub fn new(texts: [T; N]) -> Option<Listed<T, N>>
+        ensures { MatchOption result (¬ IsTrue (rises (map T.bytes texts))) (λ codes. codes ≡ map T.bytes texts) }
     {
-        if texts.len() != N {
+        if !are_rising(texts.as_slice()) {
             return None;
         }
-        if !are_rising(texts) {
-            return None;
-        }
-        Some(Codes { texts })
+        Some(Listed { texts })
     }
 
     /// The place of the text, from 0. `None` exactly where it is not listed.
     pub fn place(&self, text: &[u8]) -> Option<usize>
         ensures { result ≡ place_of self.now text.now }
     {
-        place_among(self.texts, text)
+        place_among(self.texts.as_slice(), text)
     }
 
     /// The text at the place. `None` exactly at `N` and above.
     pub fn name(&self, place: usize) -> Option<&str>
         ensures { MatchOption result (N ≤ place) (λ text. (place < N) × (slice_get self.now place ≡ Some text.now)) }
     {
-        self.texts.get(place).copied()
+        match self.texts.get(place) {
+            Some(code) => Some(code.text()),
+            None => None,
+        }
     }
 }

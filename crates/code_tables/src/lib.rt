@@ -11,5 +11,5 @@ mod table;
 #[cfg(test)]
 mod tests;
 
-pub use codes::Codes;
+pub use codes::{Codes, Listed, Text};
 pub use table::{Table, known};

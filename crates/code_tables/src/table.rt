@@ -1,5 +1,5 @@
 ghost use Rattle.std.specs.Prelude.{◌≡◌};
-ghost use Rattle.code_tables.specs.Codes.{IsTable, texts_of, place_of};
+ghost use Rattle.code_tables.specs.Codes.{place_of};
 ghost use Rattle.code_tables.specs.Catalogue.{values_of};
 
 use crate::codes::Codes;
@@ -33,20 +33,11 @@ pub enum Table {
     OverbruggingsdeelSoort,
 }
 
-// The place of the text among these, of which there are `N`, and which rise.
-fn place_in<const N: usize>(texts: &'static [&'static str], text: &[u8]) -> Option<usize>
-    requires { IsTable N (texts_of texts.now) }
-    ensures { result ≡ place_of (texts_of texts.now) text.now }
-{
-    let codes = Codes::<N>::new(texts)?;
-    codes.place(text)
-}
-
-// The match over all tables, each with the number of its texts and the texts.
+// The match over all tables, each with its texts.
 macro_rules! look_up {
-    ($table:expr, $text:expr; $($variant:ident $count:literal: [$($code:literal),* $(,)?];)*) => {
+    ($table:expr, $text:expr; $($variant:ident: [$($code:literal),* $(,)?];)*) => {
         match $table {
-            $(Table::$variant => place_in::<$count>(&[$($code),*], $text),)*
+            $(Table::$variant => Codes::new([$($code),*])?.place($text),)*
         }
     };
 }
@@ -56,50 +47,50 @@ pub fn known(table: Table, text: &[u8]) -> Option<usize>
     ensures { result ≡ place_of (values_of table) text.now }
 {
     look_up! { table, text;
-        WegdeelFunctie 17: [
+        WegdeelFunctie: [
             "OV-baan", "baan_voor_vliegverkeer", "fietspad", "inrit", "overweg", "parkeervlak",
             "rijbaan_autosnelweg", "rijbaan_autoweg", "rijbaan_lokale_weg", "rijbaan_regionale_weg",
             "ruiterpad", "spoorbaan", "transitie", "voetgangersgebied", "voetpad",
             "voetpad_op_trap", "woonerf",
         ];
-        WegdeelVoorkomen 5: [
+        WegdeelVoorkomen: [
             "gesloten_verharding", "half_verhard", "onverhard", "open_verharding", "transitie",
         ];
-        OndersteunendWegdeelFunctie 3: [
+        OndersteunendWegdeelFunctie: [
             "berm", "transitie", "verkeerseiland",
         ];
-        OndersteunendWegdeelVoorkomen 6: [
+        OndersteunendWegdeelVoorkomen: [
             "gesloten_verharding", "groenvoorziening", "half_verhard", "onverhard",
             "open_verharding", "transitie",
         ];
-        BegroeidVoorkomen 17: [
+        BegroeidVoorkomen: [
             "boomteelt", "bouwland", "duin", "fruitteelt", "gemengd_bos", "grasland_agrarisch",
             "grasland_overig", "groenvoorziening", "heide", "houtwal", "kwelder", "loofbos",
             "moeras", "naaldbos", "rietland", "struiken", "transitie",
         ];
-        OnbegroeidVoorkomen 7: [
+        OnbegroeidVoorkomen: [
             "erf", "gesloten_verharding", "half_verhard", "onverhard", "open_verharding",
             "transitie", "zand",
         ];
-        WaterdeelSoort 5: [
+        WaterdeelSoort: [
             "greppel_droge_sloot", "transitie", "waterloop", "watervlakte", "zee",
         ];
-        OndersteunendWaterdeelSoort 3: [
+        OndersteunendWaterdeelSoort: [
             "oever_slootkant", "slik", "transitie",
         ];
-        OverigBouwwerkSoort 9: [
+        OverigBouwwerkSoort: [
             "bassin", "bezinkbak", "lage_trafo", "niet-bgt", "open_loods", "opslagtank",
             "overkapping", "transitie", "windturbine",
         ];
-        KunstwerkdeelSoort 9: [
+        KunstwerkdeelSoort: [
             "gemaal", "hoogspanningsmast", "niet-bgt", "perron", "sluis", "steiger", "strekdam",
             "stuw", "transitie",
         ];
-        ScheidingSoort 8: [
+        ScheidingSoort: [
             "damwand", "geluidsscherm", "hek", "kademuur", "muur", "niet-bgt", "transitie",
             "walbescherming",
         ];
-        OverbruggingsdeelSoort 6: [
+        OverbruggingsdeelSoort: [
             "dek", "landhoofd", "pijler", "pyloon", "sloof", "transitie",
         ];
     }

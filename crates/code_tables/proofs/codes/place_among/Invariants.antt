@@ -1,6 +1,5 @@
-use Rattle.std.proofs.Common.{◌≢◌, ℕ, ◌<◌, Some, slice_get}
-use Rattle.code_tables.specs.Codes.{texts_of}
+use Rattle.std.proofs.Common.{◌≢◌, ℕ, ◌<◌, Some, map, slice_get}
 use Rattle.code_tables.proofs.codes.place_among.Given as goal
 
 abbrev pub invariant-loop-place : goal.invariant-loop-place
-invariant-loop-place l = (k : ℕ) → k < l.place → slice_get (texts_of l.texts) k ≢ Some l.text
+invariant-loop-place g l = (k : ℕ) → k < l.place → slice_get (map g.T.Text.bytes l.texts) k ≢ Some l.text
