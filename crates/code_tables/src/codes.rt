@@ -4,7 +4,7 @@ ghost use Rattle.code_tables.specs.Codes.{is_before, rises, place_of};
 use std::marker::Model;
 
 /// What a table lists: a text.
-pub trait Text: Copy {
+pub trait HasText: Copy {
     ghost bytes: { Self → List ℕ };
 
     /// The text itself.
@@ -12,7 +12,7 @@ pub trait Text: Copy {
         ensures { result.now ≡ bytes self.now };
 }
 
-impl Text for &'static str {
+impl HasText for &'static str {
     ghost bytes = { λ text. text.now };
 
     fn text(&self) -> &str {
@@ -23,14 +23,14 @@ impl Text for &'static str {
 /// A table of `N` texts that rise strictly by bytes, so that each stands in it once. Contracts see the texts.
 // It is over any type of texts, since no proof covers an array of `&str` whose length is a parameter.
 #[derive(Debug, Drop)]
-pub struct Listed<T: Text, const N: usize> {
+pub struct TextTable<T: HasText, const N: usize> {
     texts: [T; N],
 }
 
 /// A table of `N` codes.
-pub type Codes<const N: usize> = Listed<&'static str, N>;
+pub type Codes<const N: usize> = TextTable<&'static str, N>;
 
-impl<T: Text, const N: usize> Model for Listed<T, N> {
+impl<T: HasText, const N: usize> Model for TextTable<T, N> {
     ghost use Rattle.std.specs.Prelude.{List, ℕ, IsTrue, map};
     ghost use Rattle.code_tables.specs.Codes.{rises};
 
@@ -49,7 +49,7 @@ fn stands_before(text: &str, next: &str) -> bool
 }
 
 // Whether each text stands before the next.
-fn are_rising<T: Text>(texts: &[T]) -> bool
+fn are_rising<T: HasText>(texts: &[T]) -> bool
     ensures { result ≡ rises (map T.bytes texts.now) }
 {
     for place in 1..texts.len() {
@@ -61,7 +61,7 @@ fn are_rising<T: Text>(texts: &[T]) -> bool
 }
 
 // The place of the text among these.
-fn place_among<T: Text>(texts: &[T], text: &[u8]) -> Option<usize>
+fn place_among<T: HasText>(texts: &[T], text: &[u8]) -> Option<usize>
     ensures { result ≡ place_of (map T.bytes texts.now) text.now }
 {
     for (place, code) in texts.iter().enumerate() {
@@ -72,15 +72,15 @@ fn place_among<T: Text>(texts: &[T], text: &[u8]) -> Option<usize>
     None
 }
 
-impl<T: Text, const N: usize> Listed<T, N> {
+impl<T: HasText, const N: usize> TextTable<T, N> {
     /// The table of these texts. `None` exactly where they do not rise strictly by bytes.
-    pub fn new(texts: [T; N]) -> Option<Listed<T, N>>
+    pub fn new(texts: [T; N]) -> Option<TextTable<T, N>>
         ensures { MatchOption result (¬ IsTrue (rises (map T.bytes texts))) (λ codes. codes ≡ map T.bytes texts) }
     {
         if !are_rising(texts.as_slice()) {
             return None;
         }
-        Some(Listed { texts })
+        Some(TextTable { texts })
     }
 
     /// The place of the text, from 0. `None` exactly where it is not listed.

@@ -11,5 +11,5 @@ mod table;
 #[cfg(test)]
 mod tests;
 
-pub use codes::{Codes, Listed, Text};
+pub use codes::{Codes, HasText, TextTable};
 pub use table::{Table, known};
