@@ -21,15 +21,17 @@ fn texts(alloc: Global, words: &[String]) -> Result<Vec<&str>, AllocError> {
     words.iter().map(|word| word.as_str()).collect(alloc)
 }
 
+// Words that can't be read are of no listed form, as no words are.
 fn status_of(rt: &HostRuntime) -> Status {
+    let limits = Limits::standard();
+    let mut outside = RealOutside::new(rt, None, false);
     let Ok(words) = words(rt) else {
-        return Status::Usage;
+        return run(rt.alloc(), &[], &limits, &mut outside);
     };
     let Ok(texts) = texts(rt.alloc(), &words) else {
         return Status::NoMemory;
     };
-    let mut outside = RealOutside::new(rt, None, false);
-    run(rt.alloc(), &texts, &Limits::standard(), &mut outside)
+    run(rt.alloc(), &texts, &limits, &mut outside)
 }
 
 fn main(rt: HostRuntime) -> ExitCode {

@@ -1,13 +1,11 @@
 -- A message that was read has no more mutations than it may.
-use Rattle.std.proofs.Common.{◌≡◌, ◌≤◌, ◌∙◌, sym, ap, refl, inl, inr, List, ℕ, length, arith, Bool, true, false, Ok, Err}
-use Rattle.std.specs.Prelude.{Option, Some, None, Result, nat_lt}
+use Rattle.std.proofs.Common.{◌≡◌, ◌≤◌, sym, ap, refl, inl, inr, List, ℕ, length, arith, Bool, true, false, Ok}
+use Rattle.std.specs.Prelude.{Option, Some, None, nat_lt}
 use Rattle.std.proofs.lemmas.Bool.{ltb-false}
 use Rattle.message_text.specs.declared.limits.Limits.{Limits}
 use Rattle.message_text.specs.declared.message.Message.{Message}
-use Rattle.message_text.specs.declared.fault.TextFault.{TextFault}
 use Rattle.message_text.specs.declared.fault.LimitName.{LimitName}
-use Rattle.message_text.specs.declared.fault.TextFault.TheVariants as fault
-use Rattle.message_text.specs.Reading.{Reads, IsJudged, judged, passed_limit, when, arc_line}
+use Rattle.message_text.specs.Reading.{Reads, judged, passed_limit, when, arc_line}
 
 within : (most count : ℕ) (a : LimitName) (next : Option LimitName) → when (nat_lt most count) a next ≡ None → count ≤ most
 within most count a next e = by_case (nat_lt most count) refl e

@@ -1,11 +1,10 @@
 -- Bytes taken and told piece by piece, joined.
-use Rattle.std.proofs.Common.{◌≡◌, ◌≤◌, ◌+◌, ◌++◌, ℕ, List, [], length, take, drop, Option, Some, None, refl, sym, ap, ◌∙◌, arith, append_assoc, append-nil}
+use Rattle.std.proofs.Common.{◌≡◌, ◌+◌, ◌++◌, ℕ, List, [], length, take, drop, Option, Some, None, refl, sym, ap, ◌∙◌, arith, append_assoc, append-nil}
 use Rattle.std.specs.Prelude.{option_map}
-use Rattle.std.specs.Option.{ForSome}
 use Rattle.std.proofs.Math.Seq.{take-add}
 use Rattle.std.proofs.lemmas.List.{drop-drop, length-drop, length-append}
 use Rattle.outside.specs.Outside.{Shown}
-use Rattle.bgt_cli.specs.Stream.{went, Goes, TellsFront, AreFirst}
+use Rattle.bgt_cli.specs.Stream.{went, Goes, AreFirst}
 
 shown : Option (List ℕ) → Option (List ℕ) → Shown
 shown input told = record { input = input; told = told }

@@ -1,4 +1,4 @@
-use Rattle.std.proofs.Common.{◌++◌, ◌∙◌, take, arith, append_assoc, sym, ap}
+use Rattle.std.proofs.Common.{◌++◌, take, arith, append_assoc}
 use Rattle.std.proofs.lemmas.List.{take-append-drop}
 use Rattle.bgt_cli.proofs.Going.{goes_on, given}
 use Rattle.bgt_cli.proofs.stream.tell.Goals as goal
