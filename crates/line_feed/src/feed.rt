@@ -44,7 +44,7 @@ fn cut_out(bytes: &mut Vec<u8>, start: usize, n: usize)
     requires { start + n ≤ length bytes.old.items }
     ensures { bytes.new.items ≡ take n (drop start bytes.old.items) }
 {
-    bytes.copy_within(start.., 0);
+    bytes.copy_within(start..start + n, 0);
     bytes.truncate(n);
 }
 
@@ -96,8 +96,8 @@ impl Feed {
     }
 
     // Hands out the first n bytes of what is left. A text that is no shorter than what is behind it goes out with the memory
-    // that it stands in, and what is behind it is copied; a shorter one is copied. So no more bytes are copied than are
-    // handed out, and a long text does not stand in memory twice.
+    // that it stands in, and what is behind it is copied; a shorter one is copied. So at most two bytes are moved for each
+    // that is handed out, and a long text does not stand in memory twice.
     fn hand_out(&mut self, alloc: Global, n: usize) -> Result<Text, NoMemory>
         requires { n ≤ length self.old.left }
         ensures limit { self.new.limit ≡ self.old.limit }
