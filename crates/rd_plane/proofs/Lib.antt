@@ -34,3 +34,5 @@ pub mod BoxPoints
 pub mod HeightOrder
 pub mod HeightSizes
 pub mod WholeOn
+pub mod Members
+pub mod RingEdges
