@@ -2,7 +2,7 @@
 
 use crate::messages::{
     BENT, CROSSING, DOUBLED, ENDED, FAR, FIRST, GAP, HALVES, LESS, NOTHING, OLD, OPEN, OTHER,
-    OTHER_AGAIN, TOO_FAR,
+    OTHER_AGAIN, PINCHED, TOO_FAR,
 };
 use crate::run_without_faults;
 use bgt_cli::{Status, run};
@@ -78,6 +78,7 @@ const ROWS: &[(&[&str], &str, Status)] = &[
         "1 OK\n2 E20 TILED 100005.000 400000.000 100005.000 400010.000\n3 OK\n4 E9 UNKNOWN 1 2024-01-01T00:00:03\n",
         Status::Refused,
     ),
+    (&[PINCHED], "1 OK\n", Status::Good),
     (&[FAR], "1 OK\n", Status::Good),
     (&[TOO_FAR], "1 E2 SYNTAX 3\n", Status::Refused),
     (
@@ -269,7 +270,7 @@ W G0001.00000000000000000000000000000001 2024-01-01T00:00:01 onbegroeid_terreind
 RING 100000.000 400000.000 100010.000 400000.000
 EINDE
 ",
-        "2 E0 NARROW\n",
+        "2 E15 SHAPE 1 few 0\n",
     ),
     (
         "BERICHT G0001 2024-01-01T00:00:02
@@ -277,7 +278,7 @@ W G0001.00000000000000000000000000000001 2024-01-01T00:00:01 onbegroeid_terreind
 RING 100000.000 400000.000 100010.000 400000.000 100000.000 400000.000 100000.000 400010.000
 EINDE
 ",
-        "2 E0 NARROW\n",
+        "2 E15 SHAPE 1 repeat 0 2\n",
     ),
     (
         "BERICHT G0001 2024-01-01T00:00:02
