@@ -9,7 +9,11 @@
 mod check;
 mod fault;
 pub mod laws;
+mod meets;
+mod points;
 mod shape;
+mod turned;
+mod walk;
 
 pub use check::check_rings;
 pub use fault::{ShapeFault, ShapeNote};
