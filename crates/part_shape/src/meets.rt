@@ -5,7 +5,7 @@
 //! comparisons, and of the edges of the others only those near the other ring are compared with each of its edges. The
 //! boxes are made once for each ring. They are all the memory that it takes.
 
-ghost use Rattle.std.specs.Prelude.{◌≡◌, ◌≢◌, ℕ, ◌↔◌, ◌<◌, ◌≤◌, [], length, IfOk, IsTrue, MatchOption};
+ghost use Rattle.std.specs.Prelude.{◌≢◌, ℕ, ◌↔◌, ◌<◌, [], length, IfOk, IsTrue, MatchOption};
 ghost use Rattle.std.specs.List.{All};
 ghost use Rattle.rd_plane.specs.Boxes.{HoldsAll, IsLeastBox};
 ghost use Rattle.rd_plane.specs.Shapes.{HasCorners, ring_edges};
@@ -16,6 +16,14 @@ ghost use Rattle.part_shape.specs.Meets.{AreBoxesOf, MeetOffEnds, MeetsSome, Som
 use crate::walk::edge_at;
 use rd_plane::{Bounds, Edge, Meet, NoMemory, Pt, Ring, meet_of};
 use std::alloc::Global;
+
+// The least box of some points.
+pub fn box_of(points: &[Pt]) -> Bounds
+    requires { points.now ≢ [] }
+    ensures { IsLeastBox points.now result }
+{
+    Bounds::of(points).unwrap()
+}
 
 // Whether the edges have a common point that is not an end of both.
 fn edges_meet(e: Edge, f: Edge) -> bool
@@ -31,7 +39,7 @@ fn edges_meet(e: Edge, f: Edge) -> bool
     }
 }
 
-// Whether the edge meets an edge of the ring so.
+// Whether the edge and some edge of the ring have such a point.
 fn edge_meets_ring(e: Edge, ring: &[Pt]) -> bool
     requires differ { e.a ≢ e.b }
     requires corners { HasCorners ring.now }
@@ -45,15 +53,7 @@ fn edge_meets_ring(e: Edge, ring: &[Pt]) -> bool
     false
 }
 
-// The least box of some points.
-pub fn box_of(points: &[Pt]) -> Bounds
-    requires { points.now ≢ [] }
-    ensures { IsLeastBox points.now result }
-{
-    Bounds::of(points).unwrap()
-}
-
-// The same of an edge whose box may lie apart from that of the ring.
+// The same. Where the box of the edge lies apart from that of the ring, no edge of the ring is looked at.
 fn edge_meets_near(e: Edge, ring: &[Pt], bounds: &Bounds) -> bool
     requires corners { HasCorners ring.now }
     requires bounds { HoldsAll bounds.now ring.now }
@@ -65,7 +65,7 @@ fn edge_meets_near(e: Edge, ring: &[Pt], bounds: &Bounds) -> bool
     edge_meets_ring(e, ring)
 }
 
-// Whether an edge of the one ring and one of the other meet so.
+// Whether some edge of the one ring and some edge of the other have such a point.
 fn rings_meet(ring: &[Pt], other: &[Pt], bounds: &Bounds) -> bool
     requires corners { HasCorners ring.now × HasCorners other.now }
     requires bounds { HoldsAll bounds.now other.now }
@@ -79,7 +79,7 @@ fn rings_meet(ring: &[Pt], other: &[Pt], bounds: &Bounds) -> bool
     false
 }
 
-// The same of the rings at i and j, whose boxes may lie apart.
+// The same of the rings at i and j. Where their boxes lie apart, no edge is looked at.
 fn pair_meets(rings: &[Ring], boxes: &[Bounds], i: usize, j: usize) -> bool
     requires corners { All HasCorners rings.now }
     requires boxes { AreBoxesOf rings.now boxes.now }
@@ -92,7 +92,7 @@ fn pair_meets(rings: &[Ring], boxes: &[Bounds], i: usize, j: usize) -> bool
     rings_meet(rings[i].as_slice(), rings[j].as_slice(), &boxes[j])
 }
 
-// The first ring behind the one at i that meets it so.
+// The first ring behind the one at i of which this holds.
 fn partner_of(rings: &[Ring], boxes: &[Bounds], i: usize) -> Option<usize>
     requires corners { All HasCorners rings.now }
     requires boxes { AreBoxesOf rings.now boxes.now }
@@ -107,7 +107,7 @@ fn partner_of(rings: &[Ring], boxes: &[Bounds], i: usize) -> Option<usize>
     None
 }
 
-// The least pair of rings that meet so.
+// The least pair of rings of which this holds.
 fn pair_of(rings: &[Ring], boxes: &[Bounds]) -> Option<(usize, usize)>
     requires corners { All HasCorners rings.now }
     requires boxes { AreBoxesOf rings.now boxes.now }

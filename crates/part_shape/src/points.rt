@@ -1,6 +1,6 @@
 //! Where a point lies to a ring or a shape, without memory.
 
-ghost use Rattle.std.specs.Prelude.{◌≡◌, ◌≢◌, ◌∷◌, List, [], not};
+ghost use Rattle.std.specs.Prelude.{◌≡◌, ◌≢◌, ◌∷◌, [], not};
 ghost use Rattle.std.specs.List.{All};
 ghost use Rattle.rd_plane.specs.Boxes.{IsLeastBox};
 ghost use Rattle.rd_plane.specs.Frac.{StandsFor};
