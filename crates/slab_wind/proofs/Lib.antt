@@ -1,0 +1,14 @@
+pub mod Strip
+pub mod Sums
+pub mod Upward
+pub mod Strands
+pub mod West
+pub mod Gaps
+pub mod Climb
+pub mod Places
+pub mod Tails
+pub mod Whole
+pub mod Wrong
+pub mod Listing
+pub mod Decided
+pub mod Swept

@@ -1,1 +1,3 @@
 pub mod Wounds
+pub mod Slabs
+pub mod Rows
