@@ -52,7 +52,7 @@ pub fn way_of(e: Edge) -> i64
 pub fn heights_of(alloc: Global, edges: &[Edge]) -> Result<Vec<i64>, NoMemory>
     ensures { IfOk result (λ heights. AreHeights edges.now heights.items) }
 {
-    let mut heights = Vec::new(alloc);
+    let mut heights = Vec::with_capacity(alloc, 2 * edges.len())?;
     for e in edges {
         heights.push(e.a.y)?;
         heights.push(e.b.y)?;
