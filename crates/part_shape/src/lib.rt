@@ -13,7 +13,6 @@ mod meets;
 mod points;
 mod shape;
 mod turned;
-mod walk;
 
 pub use check::check_rings;
 pub use fault::{ShapeFault, ShapeNote};

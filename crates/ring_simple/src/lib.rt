@@ -10,4 +10,4 @@ mod fault;
 mod ring;
 
 pub use fault::RingFault;
-pub use ring::check_ring;
+pub use ring::{check_ring, edge_at};

@@ -38,8 +38,8 @@ fn edge_between(a: Pt, b: Pt) -> Edge
     Edge { a, b }
 }
 
-// The edge from the corner at i to the next, or from the last to the first.
-fn edge_at(points: &[Pt], i: usize) -> Edge
+/// The edge at `i` of a ring: from that corner to the next, or from the last to the first.
+pub fn edge_at(points: &[Pt], i: usize) -> Edge
     requires corners { HasCorners points.now }
     requires inside { i < length points.now }
     ensures { result ≡ slice_index_or (ring_edges points.now) i result }
