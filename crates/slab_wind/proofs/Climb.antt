@@ -1,10 +1,10 @@
 -- The row while the sweep goes up over a height: edges leave it, and others come in.
-use Rattle.std.proofs.Common.{◌≡◌, ℕ, refl, sym, ap, ◌∙◌, arith, ◌+◌, ◌<◌, ◌≤◌, inl, inr, List, [], ◌∷◌, length, take, drop, get_or, subst}
-use Rattle.std.specs.Prelude.{ℤ, pos, ◌+ℤ◌, ◌<ℤ◌, ◌≤ℤ◌, Bool, true, false, ◌⊎◌, ◌≢◌, int_lt, int_le}
+use Rattle.std.proofs.Common.{zero, suc, ◌≡◌, ℕ, refl, sym, ap, ◌∙◌, arith, ◌+◌, ◌<◌, ◌≤◌, inl, inr, List, [], ◌∷◌, length, take, drop, get_or, subst}
+use Rattle.std.specs.Prelude.{ℤ, pos, ◌+ℤ◌, ◌<ℤ◌, ◌≤ℤ◌, ◌-◌, Bool, true, false, ◌⊎◌, ◌≢◌, int_lt, int_le, ◌&&◌}
 use Rattle.std.specs.List.{AllByRecursion, AllPairs, All, Contains, filter, insert}
 use Rattle.std.proofs.lemmas.Bool.{cases_Bool, and_parts}
 use Rattle.std.proofs.lemmas.Int.{by_lt_z}
-use Rattle.std.proofs.lemmas.List.{take-append-drop, get_or-drop, length-drop, get_or_default}
+use Rattle.std.proofs.lemmas.List.{take-append-drop, get_or-drop, length-drop, get_or_default, drop_more}
 use Rattle.std.proofs.Math.ListN.{drop_of_length-le}
 use Rattle.std.proofs.lemmas.List.Elements.{All-from_recursion, recursion_from_All, All-contains_itself, All-weaker}
 use Rattle.std.proofs.lemmas.List.Kept.{AllPairs-filter}
@@ -13,13 +13,17 @@ use Rattle.rd_plane.proofs.Polynomials.{linear, by_order}
 use Rattle.rd_plane.proofs.Touching.{same_int-true, same_int-same}
 use Rattle.rd_plane.proofs.Members.{all_so, all_left, all_right, all_join, all_pairs_head}
 use Rattle.slab_wind.specs.Wounds.{HaveEndsInCommon, MeetInEnds}
-use Rattle.slab_wind.specs.Slabs.{bottom, top, is_above, is_below, begins_at, sum_of, where_so}
+use Rattle.slab_wind.specs.Slabs.{IsFirstFrom, RiseByBottom, bottom, top, is_above, is_below, sum_of, where_so}
 use Rattle.slab_wind.specs.Rows.{IsWest, IsRow, IsPlaceOf}
 use Rattle.slab_wind.proofs.Sums.{sum_filter, sum_both, sum_put, row_members}
 use Rattle.slab_wind.proofs.Strands.{above_from, not_above}
 use Rattle.rd_plane.specs.AtHeight.{ReachesOver}
 use Rattle.slab_wind.proofs.Upward.{above_reaches}
 use Rattle.slab_wind.proofs.West.{Fits, half, put_row}
+
+-- whether the edge begins at the height and goes on above it
+unfoldable pub begins_at : ℤ → Segment → Bool
+begins_at low e = same_int (bottom e) low && int_lt low (top e)
 
 -- how an edge lies to a height
 pub below_parts : (low : ℤ) (e : Segment) → is_below low e ≡ true → (bottom e <ℤ low) × (low ≤ℤ top e)
@@ -180,16 +184,68 @@ climb_ends low es row j h s = record {
   west = s.west;
 }
 
--- what the code tests
-pub begins_tested : (low : ℤ) (e : Segment) → (bottom e ≡ low) × (low <ℤ top e) → begins_at low e ≡ true
-begins_tested low e t = begins_from low e t.0 t.1
-
-pub not_begins_tested : (low : ℤ) (e : Segment) → ((bottom e ≡ low) × (low <ℤ top e) → ⊥) → begins_at low e ≡ false
-not_begins_tested low e n = not_so (begins_at low e) (λ t. n (begins_parts low e t))
+-- ---- by the places of the edges, in rising order of their lower ends
+-- past edges that do not begin at the height
+pub climb_to : (low : ℤ) (es row : List Segment) (j n : ℕ) → j + n ≤ length es → ((i : ℕ) (d : Segment) → j ≤ i → i < j + n → begins_at low (get_or es i d) ≡ false) → ClimbsSoFar low es j row → ClimbsSoFar low es (j + n) row
+climb_to low es row j zero h b s = let q : j ≡ j + 0 = omega arith in subst (λ k. ClimbsSoFar low es k row) q s
+climb_to low es row j (suc n) h b s = let q : j + 1 + n ≡ j + suc n = omega arith in subst (λ k. ClimbsSoFar low es k row) q
+    (climb_to low es row (j + 1) n (omega (arith, h)) (λ i d l m. b i d (omega (arith, l)) (omega (arith, m))) (step es (omega (arith, h)) b s))
   where
-    not_so : (b : Bool) → (b ≡ true → ⊥) → b ≡ false
-    not_so true n = absurd (n refl)
-    not_so false n = refl
+    step : (fs : List Segment) → j < length fs → ((i : ℕ) (d : Segment) → j ≤ i → i < j + suc n → begins_at low (get_or fs i d) ≡ false) → ClimbsSoFar low fs j row → ClimbsSoFar low fs (j + 1) row
+    step [] h b s = absurd (omega (arith, h))
+    step (x ∷ xs) h b s = climb_past low (x ∷ xs) row j (get_or (x ∷ xs) j x) (drop_more (x ∷ xs) j x h) (b j x (omega arith) (omega arith)) s
+
+below_begins_not : (low : ℤ) (e : Segment) → bottom e <ℤ low → begins_at low e ≡ false
+below_begins_not low e h = not_begins low e (inl (λ q. omega (arith, linear, h, q)))
+
+above_begins_not : (low : ℤ) (e : Segment) → low <ℤ bottom e → begins_at low e ≡ false
+above_begins_not low e h = not_begins low e (inl (λ q. omega (arith, linear, h, q)))
+
+-- the first place from the height on
+pub climb_starts : (low : ℤ) (es old : List Segment) (next : ℕ) → MeetInEnds es → IsRow (is_below low) es old → IsFirstFrom low es next → ClimbsSoFar low es next (filter (goes_on low) old)
+climb_starts low es old next m r f = let q : 0 + next ≡ next = omega arith in subst (λ k. ClimbsSoFar low es k (filter (goes_on low) old)) q
+    (climb_to low es (filter (goes_on low) old) 0 next (omega (arith, f.inside)) (λ i d _ h. below_begins_not low (get_or es i d) (f.before i d (omega (arith, h)))) (climb_begins low es old m r))
+
+-- behind the first edge that begins above the height
+pub climb_stops : (low : ℤ) (es row : List Segment) (i : ℕ) (e : Segment) → RiseByBottom es → i < length es → get_or es i e ≡ e → low <ℤ bottom e → ClimbsSoFar low es i row → IsRow (is_above low) es row
+climb_stops low es row i e r h q u s = climb_ends low es row (i + (length es - i)) (omega (arith, h)) (climb_to low es row i (length es - i) (omega (arith, h)) later s)
+  where
+    later : (k : ℕ) (d : Segment) → i ≤ k → k < i + (length es - i) → begins_at low (get_or es k d) ≡ false
+    later k d l m = let t = r i k d l (omega (arith, m, h)) in let w = ap bottom (get_or_default es i d e h ∙ q) in above_begins_not low (get_or es k d) (omega (arith, linear, t, w, u))
+
+-- the edges passed so far begin at the height or below it
+pub record IsPassed (low : ℤ) (es : List Segment) (i : ℕ) : Type 0 where
+  pub passed : (k : ℕ) (d : Segment) → k < i → bottom (get_or es k d) ≤ℤ low
+
+pub passed_first : (low : ℤ) (es : List Segment) (next : ℕ) → IsFirstFrom low es next → IsPassed low es next
+passed_first low es next f = record { passed = λ k d h. omega (arith, linear, f.before k d h) }
+
+pub passed_more : (low : ℤ) (es : List Segment) (i : ℕ) (e : Segment) → i < length es → get_or es i e ≡ e → bottom e ≡ low → IsPassed low es i → IsPassed low es (i + 1)
+passed_more low es i e h q b p = record {
+  passed = λ k d l. by_lt_z (pos k) (pos i) (λ m. p.passed k d (omega (arith, linear, m)))
+      (λ m. let s : k ≡ i = omega (arith, linear, m, l) in let w = ap bottom (ap (λ n. get_or es n d) s ∙ get_or_default es i d e h ∙ q) in omega (arith, linear, w, b));
+}
+
+pub first_above : (low : ℤ) (es : List Segment) (i : ℕ) (e : Segment) → RiseByBottom es → i < length es → get_or es i e ≡ e → low <ℤ bottom e → IsPassed low es i → IsFirstFrom (low +ℤ pos 1) es i
+first_above low es i e r h q u p = record {
+  inside = omega (arith, h);
+  before = λ k d l. omega (arith, linear, p.passed k d l);
+  behind = λ k d l m. let t = r i k d l m in let w = ap bottom (get_or_default es i d e h ∙ q) in omega (arith, linear, t, w, u);
+}
+
+pub none_above : (low : ℤ) (es : List Segment) (i : ℕ) → length es ≤ i → IsPassed low es i → IsFirstFrom (low +ℤ pos 1) es (length es)
+none_above low es i h p = record { inside = omega arith; before = λ k d l. omega (arith, linear, p.passed k d (omega (arith, l, h))); behind = λ k d l m. absurd (omega (arith, l, m)) }
+
+-- an edge from the place on that does not begin at the height begins above it
+pub begins_above_it : (low : ℤ) (es : List Segment) (next i : ℕ) (e : Segment) → IsFirstFrom low es next → next ≤ i → i < length es → get_or es i e ≡ e → (bottom e ≡ low → ⊥) → low <ℤ bottom e
+begins_above_it low es next i e f l h q n = by_order low (bottom e) (λ k. k) (λ k. absurd (n (sym k))) (λ k. let t = f.behind i e l h in let w = ap bottom q in absurd (omega (arith, linear, t, w, k)))
+
+-- what the code tests of an edge that begins there
+pub begins_tested : (low : ℤ) (e : Segment) → bottom e ≡ low → low <ℤ top e → begins_at low e ≡ true
+begins_tested low e b t = begins_from low e b t
+
+pub not_begins_tested : (low : ℤ) (e : Segment) → (low <ℤ top e → ⊥) → begins_at low e ≡ false
+not_begins_tested low e n = not_begins low e (inr (by_lt_z low (top e) (λ l. absurd (n l)) (λ l. l)))
 
 -- the edges of the row reach over the middle of the unit above the height
 pub row_reaches : (low : ℤ) (es : List Segment) (j : ℕ) (row : List Segment) → ClimbsSoFar low es j row → All (ReachesOver (half low)) row

@@ -12,3 +12,4 @@ pub mod Wrong
 pub mod Listing
 pub mod Decided
 pub mod Swept
+pub mod Moved

@@ -1,16 +1,16 @@
 -- The sweep from the lowest height to the highest.
 use Rattle.std.proofs.Common.{◌≡◌, ℕ, refl, sym, ap, ◌∙◌, arith, ◌+◌, ◌<◌, inl, inr, zero, suc, List, [], ◌∷◌, length, get_or, subst}
-use Rattle.std.specs.Prelude.{ℤ, pos, ◌*ℤ◌, ◌<ℤ◌, ◌≤ℤ◌, ◌⊎◌}
+use Rattle.std.specs.Prelude.{ℤ, pos, ◌+ℤ◌, ◌*ℤ◌, ◌<ℤ◌, ◌≤ℤ◌, ◌⊎◌}
 use Rattle.std.specs.List.{AllByRecursion, AllPairs, All, Contains}
 use Rattle.std.proofs.lemmas.Int.{by_lt_z, clamps, ints, to_z-of_z}
 use mir.Syntax.{w64}
 use mir.Val.{to_z, of_z, SFits}
 use Rattle.std.proofs.lemmas.List.{get_or_default}
-use Rattle.std.proofs.lemmas.List.Elements.{recursion_from_All, All-weaker}
+use Rattle.std.proofs.lemmas.List.Elements.{recursion_from_All, All-weaker, All-from_recursion}
 use Rattle.rd_plane.specs.Plane.{Segment, wind}
 use Rattle.rd_plane.specs.Shapes.{WindsBy}
 use Rattle.rd_plane.proofs.Polynomials.{linear}
-use Rattle.slab_wind.specs.Slabs.{AreHeights, HasListed, IsHeight, bottom, top, is_above, is_below, sum_of, where_so}
+use Rattle.slab_wind.specs.Slabs.{AreHeights, IsFirstFrom, HasListed, IsHeight, bottom, top, is_above, is_below, sum_of, where_so}
 use Rattle.slab_wind.specs.Rows.{IsRow, TailsAreRight, IsDecidedBelow}
 use Rattle.slab_wind.proofs.Sums.{sum_none}
 use Rattle.slab_wind.proofs.Strands.{IsClear}
@@ -48,16 +48,19 @@ pub slab_clear : (es : List Segment) (heights : List ℤ) (i : ℕ) (low high : 
 slab_clear es heights i low high a h at_low at_high = All-weaker (HasListed heights) (IsClear low high)
     (λ e l. record { begin = parted heights i low high e.a.y a.rising h at_low at_high l.0; end = parted heights i low high e.b.y a.rising h at_low at_high l.1 }) es a.listed
 
--- ---- the sweep so far: the row is that below the height at place i, and all below that height is decided
-pub record IsSwept (es : List Segment) (heights : List ℤ) (i : ℕ) (low : ℤ) (row : List Segment) : Type 0 where
+-- ---- the sweep so far: the row is that below the height at place i, the next edge is the first that begins there or
+-- above, and all below that height is decided
+pub record IsSwept (es : List Segment) (heights : List ℤ) (i : ℕ) (low : ℤ) (next : ℕ) (row : List Segment) : Type 0 where
   pub at : get_or heights i low ≡ low
+  pub place : IsFirstFrom low es next
   pub below : IsRow (is_below low) es row
   pub decided : IsDecidedBelow low es
 
-pub sweep_begins : (es : List Segment) (first : ℤ) (behind : List ℤ) → AreHeights es (first ∷ behind) → IsSwept es (first ∷ behind) 0 first []
+pub sweep_begins : (es : List Segment) (first : ℤ) (behind : List ℤ) → AreHeights es (first ∷ behind) → IsSwept es (first ∷ behind) 0 first 0 []
 unfolding sum_of
 sweep_begins es first behind a = record {
   at = refl;
+  place = record { inside = omega arith; before = λ i d h. absurd (omega (arith, h)); behind = λ i d _ h. All-from_recursion (λ e. first ≤ℤ bottom e) es over i d h };
   below = record { just = λ F. sym (sum_none (where_so (is_below first) F) es (none F es over)); west = λ i j d h l. absurd (omega (arith, l)) };
   decided = λ p o u. inl (wind_under p first es over u);
 }
@@ -73,9 +76,23 @@ sweep_begins es first behind a = record {
 pub low_within : (heights : List ℤ) (i : ℕ) (low : ℤ) → All IsHeight heights → i < length heights → get_or heights i low ≡ low → IsHeight low
 low_within heights i low w h e = subst IsHeight e (w i low h)
 
-pub sweep_more : (es : List Segment) (heights : List ℤ) (i : ℕ) (low high : ℤ) (old row : List Segment) → AreHeights es heights → i + 1 < length heights → get_or heights (i + 1) high ≡ high → IsSwept es heights i low old → IsRow (is_above low) es row → TailsAreRight row →
-    IsSwept es heights (i + 1) high row
-sweep_more es heights i low high old row a h at_high s r t = record { at = at_high; below = row_up low high es row wide clear r; decided = decided_more low high es row wide clear r t s.decided }
+-- an edge that begins above a height begins at the next one or above
+begins_next : (low high : ℤ) (e : Segment) → IsClear low high e → (low +ℤ pos 1) ≤ℤ bottom e → high ≤ℤ bottom e
+begins_next low high e c h = elim c.begin [
+  | inl a ↦ absurd (omega (arith, linear, clamps, a, h))
+  | inr a ↦ elim c.end [ inl b ↦ absurd (omega (arith, linear, clamps, b, h)) | inr b ↦ omega (arith, linear, clamps, a, b) ]
+]
+
+first_next : (low high : ℤ) (es : List Segment) (next : ℕ) → low <ℤ high → All (IsClear low high) es → IsFirstFrom (low +ℤ pos 1) es next → IsFirstFrom high es next
+first_next low high es next w c f = record {
+  inside = f.inside;
+  before = λ i d h. omega (arith, linear, f.before i d h, w);
+  behind = λ i d l h. begins_next low high (get_or es i d) (c i d h) (f.behind i d l h);
+}
+
+pub sweep_more : (es : List Segment) (heights : List ℤ) (i : ℕ) (low high : ℤ) (old row : List Segment) (passed next : ℕ) → AreHeights es heights → i + 1 < length heights → get_or heights (i + 1) high ≡ high → IsSwept es heights i low passed old → IsRow (is_above low) es row → IsFirstFrom (low +ℤ pos 1) es next → TailsAreRight row →
+    IsSwept es heights (i + 1) high next row
+sweep_more es heights i low high old row passed next a h at_high s r f t = record { at = at_high; place = first_next low high es next wide clear f; below = row_up low high es row wide clear r; decided = decided_more low high es row wide clear r t s.decided }
   where
     clear : All (IsClear low high) es
     clear = slab_clear es heights i low high a h s.at at_high
@@ -83,8 +100,8 @@ sweep_more es heights i low high old row a h at_high s r t = record { at = at_hi
     wide : low <ℤ high
     wide = let l = a.rising i (i + 1) low (omega arith) h in let d = get_or_default heights (i + 1) low high h in omega (arith, linear, l, d, s.at, at_high)
 
-pub sweep_ends : (es : List Segment) (heights : List ℤ) (i : ℕ) (low : ℤ) (row : List Segment) → AreHeights es heights → i + 1 ≡ length heights → IsSwept es heights i low row → WindsBy (pos 1) es
-sweep_ends es heights i low row a n s p o = by_lt_z p.py (p.q *ℤ low)
+pub sweep_ends : (es : List Segment) (heights : List ℤ) (i : ℕ) (low : ℤ) (next : ℕ) (row : List Segment) → AreHeights es heights → i + 1 ≡ length heights → IsSwept es heights i low next row → WindsBy (pos 1) es
+sweep_ends es heights i low next row a n s p o = by_lt_z p.py (p.q *ℤ low)
     (λ k. s.decided p o k)
     (λ k. inl (wind_over p low es under k))
   where

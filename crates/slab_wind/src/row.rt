@@ -1,13 +1,13 @@
 //! The row of the edges through a slab, from west to east, as the sweep goes up.
 
-ghost use Rattle.std.specs.Prelude.{◌≡◌, int_lt, OnOk};
+ghost use Rattle.std.specs.Prelude.{◌≡◌, pos, ◌+ℤ◌, int_lt, IfOk, OnOk};
 ghost use Rattle.std.specs.List.{All, filter};
 ghost use Rattle.rd_plane.specs.AtHeight.{ReachesOver};
 ghost use Rattle.slab_wind.specs.Rows.{IsPlaceOf, IsRow};
-ghost use Rattle.slab_wind.specs.Slabs.{IsHeight, is_above, is_below, top};
+ghost use Rattle.slab_wind.specs.Slabs.{IsFirstFrom, IsHeight, RiseByBottom, is_above, is_below, top};
 ghost use Rattle.slab_wind.specs.Wounds.{MeetInEnds};
 
-use crate::heights::{begins_at, half_above, top_of};
+use crate::heights::{begins_at, ends_above, half_above};
 use rd_plane::{Edge, NoMemory, order_at};
 use std::cmp::Ordering;
 
@@ -15,7 +15,7 @@ use std::cmp::Ordering;
 fn leave(row: &mut Vec<Edge>, low: i64)
     ensures { row.new.items ≡ filter (λ e. int_lt low (top e)) row.old.items }
 {
-    row.retain(|e| low < top_of(*e));
+    row.retain(|e| ends_above(*e, low));
 }
 
 // The place of the edge among those of the row, from west to east.
@@ -33,20 +33,28 @@ fn place_of(row: &[Edge], e: Edge, y_half: i64) -> usize
 }
 
 /// Takes the row up over the height: the edges that end there leave it, and those that begin there and go on upwards
-/// come in at their places. One walk over all edges, and one over the row for each edge that comes.
-pub fn climb(row: &mut Vec<Edge>, edges: &[Edge], low: i64) -> Result<(), NoMemory>
-    requires joined { MeetInEnds edges.now }
-    requires below { IsRow (is_below low) edges.now row.old.items }
+/// come in at their places. The edges from `next` on are those that did not begin below the height; the answer is the
+/// place of the first that does not begin there either. One walk over the row, and one more for each edge that comes.
+pub fn climb(row: &mut Vec<Edge>, rising: &[Edge], next: usize, low: i64) -> Result<usize, NoMemory>
+    requires joined { MeetInEnds rising.now }
+    requires order { RiseByBottom rising.now }
+    requires below { IsRow (is_below low) rising.now row.old.items }
     requires height { IsHeight low }
-    ensures { OnOk result (IsRow (is_above low) edges.now row.new.items) }
+    requires place { IsFirstFrom low rising.now next }
+    ensures row { OnOk result (IsRow (is_above low) rising.now row.new.items) }
+    ensures place { IfOk result (λ place. IsFirstFrom (low +ℤ pos 1) rising.now place) }
 {
     leave(row, low);
     let y_half = half_above(low);
-    for e in edges {
-        if begins_at(*e, low) {
-            let place = place_of(row.as_slice(), *e, y_half);
-            row.insert(place, *e)?;
+    for i in next..rising.len() {
+        let e = rising[i];
+        if !begins_at(e, low) {
+            return Ok(i);
+        }
+        if ends_above(e, low) {
+            let place = place_of(row.as_slice(), e, y_half);
+            row.insert(place, e)?;
         }
     }
-    Ok(())
+    Ok(rising.len())
 }
