@@ -2,7 +2,7 @@
 
 use crate::are_counted;
 use crate::built::{band, ring, rings, sieve};
-use part_shape::{Shape, ShapeFault, ShapeNote};
+use part_shape::{Shape, ShapeNote, check_rings};
 use rd_plane::{FracPt, NoMemory, Rings};
 use ring_simple::{RingFault, check_ring};
 use std::alloc::Global;
@@ -14,13 +14,13 @@ fn note_of(alloc: Global, rings: &Rings) -> Result<Option<ShapeNote>, NoMemory> 
     if !are_counted(rings) {
         return Err(NoMemory);
     }
-    match Shape::check(alloc, rings) {
-        Ok(_) => Ok(None),
-        Err(fault) => match fault.note() {
-            Some(note) => Ok(Some(note)),
-            None => Err(NoMemory),
-        },
-    }
+    let Err(fault) = check_rings(alloc, rings) else {
+        return Ok(None);
+    };
+    let Some(note) = fault.note() else {
+        return Err(NoMemory);
+    };
+    Ok(Some(note))
 }
 
 const SQUARE: Corners = &[(0, 0), (10, 0), (10, 10), (0, 10)];
