@@ -15,5 +15,6 @@ mod shape;
 mod turned;
 
 pub use check::check_rings;
-pub use fault::{ShapeFault, ShapeNote};
-pub use shape::Shape;
+pub use fault::{ShapeFault, ShapeNote, SingleFault};
+pub use points::{is_on_rings, lies_in_rings};
+pub use shape::{Shape, ShapeList};

@@ -7,11 +7,10 @@
 ghost use Rattle.std.specs.Prelude.{◌≡◌, ℕ, ◌↔◌, ◌+◌, ◌⊎◌, ◌≤◌, ◌<◌, length, slice_index_or, IsTrue, MatchOption};
 ghost use Rattle.rd_plane.specs.Shapes.{HasCorners, ring_edges};
 ghost use Rattle.ring_simple.specs.Faults.{IsPairBefore, MeetsBadly};
-ghost use Rattle.ring_simple.specs.Stretches.{HoldsEdges, MeetsSomeOf, SomeMeetBadly};
+ghost use Rattle.ring_simple.specs.Stretches.{HoldsStretch, MeetsSomeOf, SomeMeetBadly};
 
-use crate::edges::edge_at;
-use crate::stretch::{box_of_edge, box_of_edges, end_of_stretch};
-use rd_plane::{Bounds, Edge, Meet, Pt, meet_of};
+use crate::stretch::{box_of_edges, end_of_stretch};
+use rd_plane::{Bounds, Edge, Meet, Pt, box_of_edge, edge_at, meet_of};
 
 // Whether the edges at i and j of n, i before j, are an edge and the next, or the first and the last.
 fn in_turn(i: usize, j: usize, n: usize) -> bool
@@ -21,8 +20,8 @@ fn in_turn(i: usize, j: usize, n: usize) -> bool
     j == i + 1 || (i == 0 && j + 1 == n)
 }
 
-// Whether the edges e and f, which are those at i and j, meet badly.
-fn meets_badly(points: &[Pt], i: usize, e: Edge, j: usize, f: Edge) -> bool
+/// Whether the edges e and f, which are those at i and j, meet badly.
+pub fn meets_badly(points: &[Pt], i: usize, e: Edge, j: usize, f: Edge) -> bool
     requires corners { HasCorners points.now }
     requires first { e ≡ slice_index_or (ring_edges points.now) i e }
     requires second { f ≡ slice_index_or (ring_edges points.now) j f }
@@ -58,7 +57,7 @@ fn meets_some(points: &[Pt], from: usize, to: usize, j: usize, f: Edge) -> bool
 // The same of the edge at j. Where its box lies apart from that of the edges, none of them is looked at.
 fn meets_some_near(points: &[Pt], from: usize, to: usize, j: usize, bounds: &Bounds) -> bool
     requires corners { HasCorners points.now }
-    requires bounds { HoldsEdges bounds.now points.now from to }
+    requires bounds { HoldsStretch bounds.now points.now from to }
     requires inside { j < length points.now }
     ensures { IsTrue result ↔ MeetsSomeOf points.now from to j }
 {

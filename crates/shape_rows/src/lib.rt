@@ -10,8 +10,14 @@ pub use counted::are_counted;
 #[cfg(test)]
 mod built;
 #[cfg(test)]
+mod cancelling;
+#[cfg(test)]
 mod meetings;
 #[cfg(test)]
 mod points;
 #[cfg(test)]
 mod shapes;
+#[cfg(test)]
+mod sharing;
+#[cfg(test)]
+mod singles;
