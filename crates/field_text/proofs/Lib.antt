@@ -5,3 +5,5 @@ pub mod Metres
 pub mod Texts
 pub mod Solid
 mod Examples
+pub mod FewDigits
+pub mod Decimals

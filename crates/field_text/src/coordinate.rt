@@ -1,10 +1,11 @@
-ghost use Rattle.std.specs.Prelude.{◌≡◌, ◌↔◌, ◌≤◌, ◌<◌, ◌*◌, ◌+◌, ◌++◌, length, take, MatchResult, IsErrOf, MatchOption, IsTrue, All, IfSome, ℤ, slice_index};
+ghost use Rattle.std.specs.Prelude.{◌≡◌, ◌↔◌, ◌≤◌, ◌<◌, ◌*◌, ◌+◌, ◌++◌, ◌^◌, length, take, MatchResult, IsErrOf, MatchOption, IsTrue, All, IfSome, ℤ, slice_index, int_lt, pos};
 ghost use Rattle.std.specs.Char.{IsAsciiDigit};
 ghost use Rattle.field_text.specs.Forms.{number, thousandths, HasFractionForm};
-ghost use Rattle.field_text.specs.Coordinates.{IsMm, IsInAxis, signed, IsCut, HasMagnitude};
+ghost use Rattle.field_text.specs.Coordinates.{IsMm, IsInAxis, signed, IsCut, HasMagnitude, IsPrintedMm, sign};
 
-use crate::digits::{digits, fraction};
 use crate::fault::FieldFault;
+use crate::numbers::{digits, fraction};
+use crate::printed::Field;
 
 /// A direction of the grid EPSG:28992 (Rijksdriehoek), with the bounds of this register.
 #[derive(Clone, Copy, Debug, PartialEq, Eq)]
@@ -17,7 +18,7 @@ pub enum Axis {
 
 impl Axis {
     // Whether this many millimetres lie within the bounds.
-    fn contains(self, mm: i64) -> bool
+    pub(crate) fn contains(self, mm: i64) -> bool
         ensures { IsTrue result ↔ IsInAxis self mm }
     {
         match self {
@@ -33,15 +34,13 @@ fn leading_digits(field: &[u8]) -> usize
     ensures digits { All IsAsciiDigit (take result field.now) }
     ensures stop { result < length field.now → ¬ IsAsciiDigit (slice_index field.now result) }
 {
-    for (i, b) in field.iter().enumerate() {
-        if !b.is_ascii_digit() {
-            return i;
-        }
-    }
-    field.len()
+    field
+        .iter()
+        .position(|b| !b.is_ascii_digit())
+        .unwrap_or(field.len())
 }
 
-// The sign, the digits behind it, and what is behind these.
+// The sign, the digits after it, and what follows these.
 fn cut(field: &[u8]) -> (bool, &[u8], &[u8])
     ensures { IsCut field.now result.0 result.1.now result.2.now }
 {
@@ -73,7 +72,7 @@ fn magnitude(whole: &[u8], rest: &[u8]) -> Option<u64>
 }
 
 // The number with this sign and size.
-fn with_sign(minus: bool, size: u64) -> i64
+pub(crate) fn with_sign(minus: bool, size: u64) -> i64
     requires { size < 5_000_000_000_000 }
     ensures { result ≡ signed minus size }
 {
@@ -101,4 +100,29 @@ pub fn read_mm(field: &[u8], axis: Axis) -> Result<i64, FieldFault>
         return Err(FieldFault::Range);
     }
     Ok(mm)
+}
+
+// Adds a minus below 0.
+fn push_sign(field: &mut Field, mm: i64)
+    requires { length field.old < 32 }
+    ensures pushed { field.new ≡ field.old ++ sign (int_lt mm (pos 0)) }
+    ensures len { length field.new ≤ length field.old + 1 }
+{
+    if mm < 0 {
+        field.push(b'-');
+    }
+}
+
+/// The millimetres in metres, as `-0.001`: exactly three decimals, no leading zero before the last digit of the whole
+/// metres, and `-` only below 0. Within the bounds of an axis, `read_mm` gives the number back.
+pub fn print_mm(mm: i64) -> Field
+    ensures { IsPrintedMm result mm }
+{
+    let size = mm.unsigned_abs();
+    let mut field = Field::new();
+    push_sign(&mut field, mm);
+    field.push_decimal(size / 1000);
+    field.push(b'.');
+    field.push_three((size % 1000) as u32);
+    field
 }

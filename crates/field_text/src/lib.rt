@@ -7,18 +7,19 @@
 
 mod coordinate;
 mod day;
-mod digits;
 mod fault;
-mod field;
 pub mod laws;
+mod leading;
 mod moment;
+mod numbers;
 mod printed;
 #[cfg(test)]
 mod tests;
 
-pub use coordinate::{Axis, read_mm};
+pub use coordinate::{Axis, print_mm, read_mm};
 pub use day::{Day, print_day, read_day};
 pub use fault::FieldFault;
-pub use field::Field;
+pub use leading::leading_mm;
 pub use moment::{Moment, print_moment, read_moment};
-pub use printed::print_mm;
+pub use numbers::digits;
+pub use printed::{Field, Printed};

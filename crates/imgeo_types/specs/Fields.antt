@@ -31,11 +31,11 @@ pub record IsCode (field : List ℕ) : Type 0 where
   pub bytes : All IsCodeByte field
 
 -- the field, and zeros behind it up to 64 bytes
-abbrev pub padded : List ℕ → List ℕ
-padded field = field ++ replicate (64 - length field) 0
+abbrev pub zero_filled : List ℕ → List ℕ
+zero_filled field = field ++ replicate (64 - length field) 0
 
 -- the first len bytes are a code, and zeros stand behind it
 pub record KeepsCode (bytes : List ℕ) (len : ℕ) : Type 0 where
   pub code : IsCode (take len bytes)
   pub within : length (take len bytes) ≡ len
-  pub zeros : padded (take len bytes) ≡ bytes
+  pub zeros : zero_filled (take len bytes) ≡ bytes

@@ -2,7 +2,7 @@ ghost use Rattle.std.specs.Prelude.{◌≡◌, ◌↔◌, ◌≤◌, IsTrue, Mat
 ghost use Rattle.std.specs.Str.{bytes_eq};
 ghost use Rattle.std.specs.Cmp.{partial_equiv_from_equiv};
 ghost use Rattle.std.proofs.lemmas.Cmp.{nat_list_eq_equiv};
-ghost use Rattle.imgeo_types.specs.Fields.{IsCode, IsCodeByte, padded};
+ghost use Rattle.imgeo_types.specs.Fields.{IsCode, IsCodeByte, zero_filled};
 
 use std::marker::Model;
 
@@ -17,13 +17,13 @@ pub struct Code {
 
 impl Model for Code {
     ghost use Rattle.std.specs.Prelude.{List, ℕ, length, take};
-    ghost use Rattle.imgeo_types.specs.Fields.{KeepsCode, padded};
+    ghost use Rattle.imgeo_types.specs.Fields.{KeepsCode, zero_filled};
 
     ghost Value = { List ℕ };
 
     ghost view = { λ c. take c.len c.bytes };
 
-    ghost inverse = { λ code. record { bytes = padded code; len = length code } };
+    ghost inverse = { λ code. record { bytes = zero_filled code; len = length code } };
 
     ghost invariant = { λ c. KeepsCode c.bytes c.len };
 }
@@ -43,9 +43,9 @@ fn is_code(field: &[u8]) -> bool
 }
 
 // The field in front of zeros.
-fn padded_to_64(field: &[u8]) -> [u8; 64]
+fn filled_to_64(field: &[u8]) -> [u8; 64]
     requires { length field.now ≤ 64 }
-    ensures { result ≡ padded field.now }
+    ensures { result ≡ zero_filled field.now }
 {
     let mut bytes = [0; 64];
     bytes[..field.len()].copy_from_slice(field);
@@ -61,7 +61,7 @@ impl Code {
             return None;
         }
         Some(Code {
-            bytes: padded_to_64(field),
+            bytes: filled_to_64(field),
             len: field.len(),
         })
     }

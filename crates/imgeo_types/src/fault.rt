@@ -1,4 +1,5 @@
 use crate::kind::Attr;
+use std::fmt;
 
 /// What is wrong with an item. Of more faults than one the first in this order counts, and the attributes are tried one
 /// after the other: functie, fysiekVoorkomen, type.
@@ -19,4 +20,15 @@ pub enum ItemFault {
     },
     /// There is a number of a building, and the kind is another than `pand`, or it is not 16 digits.
     PandNumber,
+}
+
+impl fmt::Display for ItemFault {
+    fn fmt<W: fmt::Write>(&self, f: &mut fmt::Formatter<W>) -> fmt::Result {
+        match self {
+            ItemFault::Level => write!(f, "the level is not from -99 to 99"),
+            ItemFault::Code { attr } => write!(f, "{} has a value that is not listed", attr.word()),
+            ItemFault::Missing { attr } => write!(f, "{} has no value", attr.word()),
+            ItemFault::PandNumber => write!(f, "the number of a building is out of place"),
+        }
+    }
 }

@@ -16,7 +16,7 @@ pub enum Framed {
     TooLong,
 }
 
-/// A stream that comes in pieces. Contracts see the limit on the bytes of a text and what is left: the bytes behind the
+/// A stream that comes in pieces. Contracts see the limit on the bytes of a text and what is left: the bytes after the
 /// last text that was handed out, all of which it keeps.
 #[derive(Drop)]
 pub struct Feed {
@@ -24,15 +24,15 @@ pub struct Feed {
     bytes: Vec<u8>,
     // What is left begins here.
     start: usize,
-    // No text ends within so many bytes of what is left, so the next search begins behind them.
+    // No text ends within so many bytes of what is left, so the next search begins after them.
     looked: usize,
 }
 
 impl Model for Feed {
     ghost use Rattle.std.specs.Prelude.{drop, ◌+◌, ◌≤◌, length};
-    ghost use Rattle.line_feed.specs.Texts.{Kept, HasNoText};
+    ghost use Rattle.line_feed.specs.Texts.{FeedView, HasNoText};
 
-    ghost Value = { Kept };
+    ghost Value = { FeedView };
 
     ghost view = { λ f. record { limit = f.limit; left = drop f.start f.bytes.items } };
 
@@ -44,7 +44,9 @@ fn cut_out(bytes: &mut Vec<u8>, start: usize, n: usize)
     requires { start + n ≤ length bytes.old.items }
     ensures { bytes.new.items ≡ take n (drop start bytes.old.items) }
 {
-    bytes.copy_within(start..start + n, 0);
+    if start > 0 {
+        bytes.copy_within(start..start + n, 0);
+    }
     bytes.truncate(n);
 }
 
@@ -62,7 +64,7 @@ impl Feed {
         }
     }
 
-    /// The number of bytes behind the last text that was handed out.
+    /// The number of bytes after the last text that was handed out.
     pub fn rest(&self) -> u64
         ensures { result ≡ length self.now.left }
     {
@@ -84,7 +86,7 @@ impl Feed {
         self.start = 0;
     }
 
-    /// Adds a piece to what is left.
+    /// Adds a piece to what is left. An `Err`, for lack of memory, leaves all as before.
     pub fn feed(&mut self, piece: &[u8]) -> Result<(), NoMemory>
         ensures limit { self.new.limit ≡ self.old.limit }
         ensures ok { OnOk result (self.new.left ≡ self.old.left ++ piece.now) }
@@ -95,8 +97,8 @@ impl Feed {
         Ok(())
     }
 
-    // Hands out the first n bytes of what is left. A text that is no shorter than what is behind it goes out with the memory
-    // that it stands in, and what is behind it is copied; a shorter one is copied. So at most two bytes are moved for each
+    // Hands out the first n bytes of what is left. A text that is no shorter than what follows it goes out with the memory
+    // that it stands in, and what follows it is copied; a shorter one is copied. So at most two bytes are moved for each
     // that is handed out, and a long text does not stand in memory twice.
     fn hand_out(&mut self, alloc: Global, n: usize) -> Result<Text, NoMemory>
         requires { n ≤ length self.old.left }
@@ -120,7 +122,8 @@ impl Feed {
     }
 
     /// The next text, or `None` where none ends in what is left. Bytes in which no text was found are not searched again,
-    /// and what is left behind the text is not moved.
+    /// and what is left after the text is not moved. An `Err`, for lack of memory, leaves all as before: the next call finds
+    /// the same text.
     pub fn next_text(&mut self, alloc: Global) -> Result<Option<Framed>, NoMemory>
         ensures limit { self.new.limit ≡ self.old.limit }
         ensures ok { IfOk result (Hands self.old self.new) }

@@ -6,6 +6,7 @@
 //! no rule on rings and codes, and no disk.
 #![tactic(auto)]
 
+mod cuts;
 mod draft;
 mod fault;
 mod fields;
@@ -16,6 +17,7 @@ mod limited;
 mod limits;
 mod line;
 mod message;
+mod plain_ring;
 mod print;
 mod print_fields;
 mod print_line;
@@ -25,6 +27,7 @@ mod token;
 
 pub use fault::{LimitName, TextFault};
 pub use limits::Limits;
-pub use message::{Message, Mutation, Mutations};
-pub use print::print_message;
+pub use message::{Header, Message, Mutation, Mutations};
+pub use print::{print_message, push_object_lines, push_shape_lines};
+pub use print_fields::{push_bytes, push_field};
 pub use read::read_message;

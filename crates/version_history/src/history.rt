@@ -1,15 +1,17 @@
-ghost use Rattle.std.specs.Prelude.{◌≡◌, ◌≢◌, ◌↔◌, ◌++◌, [], ◌∷◌, ◌<◌, length, ℤ, Option, None, IsNone, IsSome, IfSome, OnOk, OnErr, IsErrOf, IfOk, IfErr, slice_get, option_and_then, take, All};
+ghost use Rattle.std.specs.Prelude.{◌≡◌, ◌≢◌, ◌↔◌, ◌++◌, [], ◌∷◌, ◌<◌, length, ℤ, Option, None, IsNone, IsSome, IfSome, OnOk, OnErr, IsErrOf, IfOk, IfErr, slice_get, option_and_then, take, All, filter};
 ghost use Rattle.std.specs.Option.{option_copied};
 ghost use Rattle.version_history.specs.Versions.{current_of, last_of, new_version, ended, ended_in, IsUnknown};
-ghost use Rattle.version_history.specs.Sound.{IsSound, OnlyLastCurrent};
+ghost use Rattle.version_history.specs.Sound.{IsSoundHistory, OnlyLastCurrent};
 ghost use Rattle.version_history.specs.Places.{change_at, end_of, idents, last_place, reopened, reopened_at, IsCurrentPlace};
 ghost use Rattle.version_history.specs.Indexed.{IsIndexOf};
+ghost use Rattle.version_history.specs.Moments.{contents, holds_at, versions_at, versions_of};
 
 use crate::fault::HistoryFault;
 use crate::index::Index;
 use crate::version::Version;
 use field_text::{Day, Moment};
 use imgeo_types::{Holder, Ident, Item};
+use rd_plane::NoMemory;
 use std::alloc::Global;
 use std::marker::Model;
 
@@ -29,11 +31,11 @@ pub struct History {
 }
 
 impl Model for History {
-    ghost use Rattle.version_history.specs.Versions.{Kept};
+    ghost use Rattle.version_history.specs.Versions.{HistoryView};
     ghost use Rattle.version_history.specs.Places.{kept_of};
     ghost use Rattle.version_history.specs.Indexed.{Fits};
 
-    ghost Value = { Kept };
+    ghost Value = { HistoryView };
 
     ghost view = { λ h. record { versions = h.versions.items; kept = kept_of h.kept h.ended.items h.versions.items } };
 
@@ -82,6 +84,32 @@ fn take_back(versions: &mut Vec<Version>, index: &mut Index, kept: usize)
         };
         index.pop(version.ident);
     }
+}
+
+// Whether the version holds at the moment.
+fn is_held(version: &Version, moment: Moment) -> bool
+    ensures { result ≡ holds_at moment version.now }
+{
+    if moment < version.since {
+        return false;
+    }
+    match version.until {
+        Some(until) => moment < until,
+        None => true,
+    }
+}
+
+// The versions that hold at the moment, in their order.
+fn held_at(alloc: Global, versions: &[Version], moment: Moment) -> Result<Vec<&Version>, NoMemory>
+    ensures { IfOk result (λ found. contents found.items ≡ filter (holds_at moment) versions.now) }
+{
+    let mut found = Vec::new(alloc);
+    for version in versions {
+        if is_held(version, moment) {
+            found.push(version)?;
+        }
+    }
+    Ok(found)
 }
 
 impl History {
@@ -217,6 +245,29 @@ impl History {
         Some(&self.versions[place])
     }
 
+    /// The versions of the identification, in order of making. Linear in all versions.
+    pub fn versions(&self, alloc: Global, ident: Ident) -> Result<Vec<&Version>, NoMemory>
+        ensures { IfOk result (λ found. contents found.items ≡ versions_of ident self.now.versions) }
+    {
+        let mut found = Vec::new(alloc);
+        for version in &self.versions {
+            if version.ident == ident {
+                found.push(version)?;
+            }
+        }
+        Ok(found)
+    }
+
+    /// The versions that hold at the moment, by rising identification, and those of one identification in order of making.
+    /// Looks at all versions, and sorts those that hold.
+    pub fn at(&self, alloc: Global, moment: Moment) -> Result<Vec<&Version>, NoMemory>
+        ensures { IfOk result (λ found. contents found.items ≡ versions_at moment self.now.versions) }
+    {
+        let mut found = held_at(alloc, &self.versions, moment)?;
+        found.sort_by_key(|version| version.ident)?;
+        Ok(found)
+    }
+
     /// How many versions there are.
     pub fn count(&self) -> u64
         ensures { result ≡ length self.now.versions }
@@ -228,7 +279,7 @@ impl History {
     /// on which its object ended.
     pub fn as_slice(&self) -> &[Version]
         ensures value { result.now ≡ self.now.versions }
-        ensures sound { IsSound self.now.versions }
+        ensures sound { IsSoundHistory self.now.versions }
     {
         self.versions.as_slice()
     }
