@@ -1,0 +1,11 @@
+pub mod Crossed
+pub mod Improving
+pub mod Uncrossed
+pub mod Wounded
+pub mod First
+pub mod Lists
+pub mod Terms
+pub mod Explained
+pub mod ExampleRows
+pub mod OneFraction
+pub mod OneAnswer

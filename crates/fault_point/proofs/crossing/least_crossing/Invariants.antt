@@ -1,0 +1,12 @@
+use Rattle.std.proofs.Common.{◌-◌, length, take}
+use Rattle.std.specs.Prelude.{None}
+use Rattle.rd_plane.specs.Improving.{Improves}
+use Rattle.fault_point.specs.Crossings.{IsPairOf}
+use Rattle.fault_point.specs.Faults.{pair_cmp}
+use Rattle.fault_point.proofs.crossing.least_crossing.Given as goal
+
+abbrev pub invariant-loop-from : goal.invariant-loop-from
+invariant-loop-from l = Improves pair_cmp (IsPairOf l.edges (take l.from l.edges)) None l.least
+
+abbrev pub decreases-loop-from : goal.decreases-loop-from
+decreases-loop-from l = length l.edges - l.from

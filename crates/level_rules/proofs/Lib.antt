@@ -1,0 +1,4 @@
+pub mod PairOrder
+pub mod Named
+pub mod Newest
+pub mod Searched

@@ -1,0 +1,5 @@
+//! Worked rows of boxes by number.
+#![tactic(auto)]
+
+#[cfg(test)]
+mod indexes;
