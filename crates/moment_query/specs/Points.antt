@@ -1,0 +1,52 @@
+-- What lies at a point.
+use Rattle.std.specs.Prelude.{ℤ, Bool, not, ◌&&◌, ◌||◌, List, [], ◌∷◌, ◌++◌, find, Option, Some, None, codes, ℕ}
+use Rattle.std.specs.Bool.{if◌then◌else◌}
+use Rattle.std.specs.List.{list_any}
+use Rattle.rd_plane.specs.Plane.{Vertex, Point, point_of, off}
+use Rattle.rd_plane.specs.Shapes.{shape_edges}
+use Rattle.rd_plane.specs.Covering.{covers}
+use Rattle.version_history.specs.declared.version.Version.{Version}
+use Rattle.version_history.specs.Moments.{holds, holds_at}
+use Rattle.area_book.specs.declared.version.AreaVersion.{AreaVersion}
+use Rattle.map_core.specs.State.{State, is_ground}
+
+-- the point is on an edge of the shape
+abbrev pub is_bordered : Point → List (List Vertex) → Bool
+is_bordered p shape = not (off p (shape_edges shape))
+
+-- the area holds at the moment, and the point is on an edge of it
+abbrev pub is_area_border : ℤ → Point → AreaVersion → Bool
+is_area_border moment p a = holds moment a.since a.until && list_any (is_bordered p) a.shapes
+
+-- a ground part that holds at the moment
+abbrev pub is_ground_at : ℤ → Version → Bool
+is_ground_at moment v = holds_at moment v && is_ground v.item
+
+-- a ground part holds at the moment, and the point is on an edge of it
+abbrev pub is_part_border : ℤ → Point → Version → Bool
+is_part_border moment p v = is_ground_at moment v && is_bordered p v.item.rings
+
+-- a ground part holds at the moment, and the point lies in it
+abbrev pub is_part_at : ℤ → Point → Version → Bool
+is_part_at moment p v = is_ground_at moment v && covers p v.item.rings
+
+-- the point is on an edge of an area or of a ground part that holds at the moment
+abbrev pub is_border : State → ℤ → Point → Bool
+is_border s moment p = list_any (is_area_border moment p) s.areas || list_any (is_part_border moment p) s.versions
+
+-- the first ground part, in order of making, that holds at the moment and in which the point lies
+abbrev pub part_at : State → ℤ → Point → Option Version
+part_at s moment p = find (is_part_at moment p) s.versions
+
+-- the identification of the part, or that there is none
+abbrev pub part_word : Option Version → List ℕ
+part_word None = codes "NONE"
+part_word (Some v) = v.ident
+
+-- the border first, and then the part
+abbrev pub point_word : State → ℤ → Vertex → List ℕ
+point_word s moment p = if is_border s moment (point_of p) then codes "BORDER" else part_word (part_at s moment (point_of p))
+
+-- what lies at the point at the moment, in one line
+unfoldable pub point_line : State → ℤ → Vertex → List ℕ
+point_line s moment p = point_word s moment p ++ 10 ∷ []
