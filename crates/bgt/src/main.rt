@@ -1,14 +1,15 @@
-//! The program `bgt`: its words, standard input and standard output. All that it does is `bgt_cli::run`.
+//! The program `bgt`: its words, standard input, standard output and one file. All that it does is `bgt_cli::run`.
 #![tactic(auto)]
 
 use bgt_cli::{Status, run};
 use message_text::Limits;
 use outside::RealOutside;
 use std::alloc::{AllocError, Global};
+use std::io::ErrorKind;
 use std::process::ExitCode;
 use std::{env, io};
 
-// The words of the command line behind the program's name. A word that is no UTF-8 is an error.
+// The words of the command line after the program's name.
 fn words(rt: &HostRuntime) -> io::Result<Vec<String>> {
     let mut words = Vec::new(rt.alloc());
     for word in env::args(rt)?.skip(1) {
@@ -21,17 +22,31 @@ fn texts(alloc: Global, words: &[String]) -> Result<Vec<&str>, AllocError> {
     words.iter().map(|word| word.as_str()).collect(alloc)
 }
 
-// Words that can't be read are of no listed form, as no words are.
+// The file of `load`. No other command has one.
+fn file_of<'a>(words: &[&'a str]) -> Option<&'a str> {
+    match words {
+        ["load", file] => Some(*file),
+        _ => None,
+    }
+}
+
+fn status_of_words(rt: &HostRuntime, words: &[&str]) -> Status {
+    let file = file_of(words);
+    let mut outside = RealOutside::new(rt, file, file.is_some());
+    run(rt.alloc(), words, &Limits::standard(), &mut outside)
+}
+
+// A word that is not UTF-8 is of no listed form, as no words are.
 fn status_of(rt: &HostRuntime) -> Status {
-    let limits = Limits::standard();
-    let mut outside = RealOutside::new(rt, None, false);
-    let Ok(words) = words(rt) else {
-        return run(rt.alloc(), &[], &limits, &mut outside);
+    let words = match words(rt) {
+        Ok(words) => words,
+        Err(e) if e.kind() == ErrorKind::InvalidData => return status_of_words(rt, &[]),
+        Err(_) => return Status::NoMemory,
     };
-    let Ok(texts) = texts(rt.alloc(), &words) else {
-        return Status::NoMemory;
-    };
-    run(rt.alloc(), &texts, &limits, &mut outside)
+    match texts(rt.alloc(), &words) {
+        Ok(texts) => status_of_words(rt, &texts),
+        Err(AllocError) => Status::NoMemory,
+    }
 }
 
 fn main(rt: HostRuntime) -> ExitCode {

@@ -1,17 +1,17 @@
 //! The worked rows of the command `check`, and what other words do.
 
 use crate::messages::{
-    BENT, CROSSING, DOUBLED, ENDED, FAR, FIRST, GAP, HALVES, LESS, NOTHING, OLD, OPEN, OTHER,
-    OTHER_AGAIN, PINCHED, TOO_FAR,
+    ADDED_AGAIN, AREA_AGAIN, BEFORE_IT, BENT, BESIDE, CHANGED, CORNER, CROSSING, DOUBLED, ENDED,
+    FAR, FIRST, GAP, HALVES, LESS, NO_AREA, NOTHING, OLD, OPEN, OTHER, OTHER_AGAIN, OVER, PAIRS,
+    PINCHED, SIDE_BY_SIDE, SQUARE_AGAIN, TOO_FAR, TOUCHING,
 };
-use crate::run_without_faults;
 use bgt_cli::{Status, run};
 use message_text::Limits;
 use outside::MemOutside;
 use std::alloc::{AllocError, Global};
 use std::test::Fail;
 
-/// These texts, one behind the other.
+/// These texts, one after the other.
 pub fn joined(alloc: Global, texts: &[&str]) -> Result<String, AllocError> {
     let mut stream = String::new(alloc);
     for text in texts {
@@ -29,7 +29,7 @@ pub fn answered(
     piece: usize,
 ) -> Result<(Vec<u8>, Status), Fail> {
     let piece = piece.max(1);
-    let mut outside = MemOutside::new(alloc, input, piece, &[], None, 1 << 20)?;
+    let mut outside = MemOutside::new(alloc, input, b"", piece, &[], None, 1 << 20)?;
     let ends = if limits.is_valid() {
         run(alloc, words, limits, &mut outside)
     } else {
@@ -78,6 +78,18 @@ const ROWS: &[(&[&str], &str, Status)] = &[
         "1 OK\n2 E20 TILED 100005.000 400000.000 100005.000 400010.000\n3 OK\n4 E9 UNKNOWN 1 2024-01-01T00:00:03\n",
         Status::Refused,
     ),
+    // An identification is known also once its version has ended.
+    (
+        &[HALVES, LESS, ADDED_AGAIN],
+        "1 OK\n2 OK\n3 E8 KNOWN 1\n",
+        Status::Refused,
+    ),
+    // An area may not come before the last area of another holder.
+    (
+        &[HALVES, AREA_AGAIN, OTHER],
+        "1 OK\n2 OK\n3 E5 STALE 2024-01-01T00:00:02\n",
+        Status::Refused,
+    ),
     (&[PINCHED], "1 OK\n", Status::Good),
     (&[FAR], "1 OK\n", Status::Good),
     (&[TOO_FAR], "1 E2 SYNTAX 3\n", Status::Refused),
@@ -102,6 +114,25 @@ const ROWS: &[(&[&str], &str, Status)] = &[
         "1 OK\n2 OK\n3 E5 STALE 2024-01-01T00:00:01\n4 E5 STALE 2024-01-01T00:00:01\n5 OK\n6 OK\n",
         Status::Refused,
     ),
+    // The areas of two holders are apart, and may share a side.
+    (
+        &[
+            FIRST,
+            OVER,
+            CHANGED,
+            BESIDE,
+            NO_AREA,
+            SQUARE_AGAIN,
+            BEFORE_IT,
+        ],
+        "1 OK\n2 E17 AREA meets G0001\n3 OK\n4 OK\n5 OK\n6 OK\n7 E5 STALE 2024-01-01T00:00:03\n",
+        Status::Refused,
+    ),
+    // The shapes of one area meet in corners of both alone.
+    (&[SIDE_BY_SIDE], "1 E17 AREA own 0 1\n", Status::Refused),
+    (&[CORNER], "1 OK\n", Status::Good),
+    (&[TOUCHING], "1 E17 AREA own 0 1\n", Status::Refused),
+    (&[PAIRS], "1 E17 AREA own 0 2\n", Status::Refused),
     (&["\n", FIRST], "1 E2 SYNTAX 1\n", Status::Refused),
     (
         &["EINDE\nEINDE\n"],
@@ -140,7 +171,7 @@ fn any_chunking(rt: HostRuntime) -> Result<(), Fail> {
     Ok(())
 }
 
-// A second message behind the two halves, and its reply.
+// A second message after the two halves, and its reply.
 const SECOND: &[(&str, &str)] = &[
     (
         "BERICHT G0001 2024-01-01T00:00:02
@@ -280,14 +311,7 @@ EINDE
 ",
         "2 E15 SHAPE 1 repeat 0 2\n",
     ),
-    (
-        "BERICHT G0001 2024-01-01T00:00:02
-GEBIED
-RING 100000.000 400000.000 100005.000 400000.000 100010.000 400000.000 100010.000 400010.000 100005.000 400010.000 100000.000 400010.000
-EINDE
-",
-        "2 OK\n",
-    ),
+    (AREA_AGAIN, "2 OK\n"),
     (
         "BERICHT G0001 2024-01-01T00:00:02
 GEBIED
@@ -316,7 +340,7 @@ fn other_words(rt: HostRuntime) -> Result<(), Fail> {
         &["check", ""],
         &["check", "check"],
         &["load"],
-        &["load", "F"],
+        &["load", "F", "G"],
     ];
     for (row, words) in lists.iter().enumerate() {
         let (told, status) = answered(rt.alloc(), words, &Limits::standard(), FIRST.as_bytes(), 3)?;
@@ -343,12 +367,4 @@ fn codes(rt: HostRuntime) {
     for (status, code) in codes {
         assert_eq!(rt; status.code(), code, "{status:?}");
     }
-    let ends = run_without_faults(
-        rt.alloc(),
-        &["check"],
-        &Limits::standard(),
-        FIRST.as_bytes(),
-        5,
-    );
-    assert_eq!(rt; ends, Status::Good);
 }

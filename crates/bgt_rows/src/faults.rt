@@ -1,6 +1,6 @@
 //! A failing call at each place of a run, and an input as long as its limit.
 
-use crate::check::joined;
+use crate::check::{answered, joined};
 use crate::messages::FIRST;
 use bgt_cli::{Status, run};
 use message_text::Limits;
@@ -16,7 +16,7 @@ const LINE: &[u8] = b"1 OK\n";
 
 fn failing(alloc: Global, call: u64, piece: usize) -> Result<(Vec<u8>, Status), Fail> {
     let piece = piece.max(1);
-    let mut outside = MemOutside::new(alloc, FIRST.as_bytes(), piece, &[call], None, 1 << 20)?;
+    let mut outside = MemOutside::new(alloc, FIRST.as_bytes(), b"", piece, &[call], None, 1 << 20)?;
     let status = run(alloc, &["check"], &Limits::standard(), &mut outside);
     Ok((outside.told().to_vec(alloc)?, status))
 }
@@ -62,7 +62,7 @@ fn all_calls_stop(rt: HostRuntime) -> Result<(), Fail> {
     ];
     for (stop, bytes, ends) in rows {
         let input = FIRST.as_bytes();
-        let mut outside = MemOutside::new(rt.alloc(), input, PIECE, &[], Some(stop), 1 << 20)?;
+        let mut outside = MemOutside::new(rt.alloc(), input, b"", PIECE, &[], Some(stop), 1 << 20)?;
         let status = run(rt.alloc(), &["check"], &Limits::standard(), &mut outside);
         assert_eq!(rt; outside.told(), &LINE[..bytes], "stop {stop}");
         assert_eq!(rt; status, ends, "stop {stop}");
@@ -77,7 +77,7 @@ fn usage_is_cut_short(rt: HostRuntime) -> Result<(), Fail> {
         (2, b"USA".as_slice()),
         (3, b"USAGE\n".as_slice()),
     ] {
-        let mut outside = MemOutside::new(rt.alloc(), b"x", 3, &[call], None, 1 << 20)?;
+        let mut outside = MemOutside::new(rt.alloc(), b"x", b"", 3, &[call], None, 1 << 20)?;
         let status = run(rt.alloc(), &["chec"], &Limits::standard(), &mut outside);
         assert_eq!(rt; outside.told(), front, "call {call}");
         let ends = if call < 3 {
@@ -104,29 +104,35 @@ fn input_as_long_as_the_limit(rt: HostRuntime) -> Result<(), Fail> {
             input_bytes,
             ..Limits::standard()
         };
-        let input = FIRST.as_bytes();
-        let mut outside = MemOutside::new(rt.alloc(), input, 64, &[], None, 1 << 20)?;
-        let status = run(rt.alloc(), &["check"], &limits, &mut outside);
+        let (told, status) = answered(rt.alloc(), &["check"], &limits, FIRST.as_bytes(), 64)?;
         assert_eq!(rt; status, ends, "{input_bytes} bytes");
         let line = if input_bytes >= 266 {
             LINE
         } else {
             b"".as_slice()
         };
-        assert_eq!(rt; outside.told(), line, "{input_bytes} bytes");
+        assert_eq!(rt; told.as_slice(), line, "{input_bytes} bytes");
     }
     Ok(())
 }
 
 #[test]
 fn no_reply_waits_for_the_next_piece(rt: HostRuntime) -> Result<(), Fail> {
-    // The source stops behind the last byte of the smallest map: its line was told before another byte was asked for.
+    // The source stops after the last byte of the smallest map: its line was told before another byte was asked for.
     let stream = joined(
         rt.alloc(),
         &[FIRST, "BERICHT G0001 2024-01-01T00:00:02\nEIN"],
     )?;
     let stop = FIRST.len() as u64 + 5;
-    let mut outside = MemOutside::new(rt.alloc(), stream.as_bytes(), 1, &[], Some(stop), 1 << 20)?;
+    let mut outside = MemOutside::new(
+        rt.alloc(),
+        stream.as_bytes(),
+        b"",
+        1,
+        &[],
+        Some(stop),
+        1 << 20,
+    )?;
     let status = run(rt.alloc(), &["check"], &Limits::standard(), &mut outside);
     assert_eq!(rt; outside.told(), LINE);
     assert_eq!(rt; status, Status::ReadFault);

@@ -1,5 +1,6 @@
 use super::*;
 use std::test::Fail;
+use std::{fs, process};
 
 // Each row: is it a `take`; the length of its buffer or piece; what it answers; the told text and the number of calls
 // after it. The room is 7 entries and 4 told bytes. Call 3 is to fail, 7 is past the room, and 8 and 9 come after the last.
@@ -16,7 +17,15 @@ fn in_memory(rt: HostRuntime) -> Result<(), Fail> {
         (true, 4, Err(Failed), b"xyx", 8),
         (true, 4, Err(Failed), b"xyx", 9),
     ];
-    let mut outside = MemOutside::new(rt.alloc(), b"abc", 2, &[3], Some(7), 7 * ENTRY_BYTES + 4)?;
+    let mut outside = MemOutside::new(
+        rt.alloc(),
+        b"abc",
+        b"",
+        2,
+        &[3],
+        Some(7),
+        7 * ENTRY_BYTES + 4,
+    )?;
     let mut buf = [0; 5];
     for (is_take, len, want, told, calls) in rows {
         let had = if is_take {
@@ -54,8 +63,51 @@ fn fault_free(rt: HostRuntime) -> Result<(), Fail> {
     Ok(())
 }
 
+// A file of four bytes. Call 4, a write, fails; call 6, a sync, does not.
 #[test]
-fn standard_output(rt: HostRuntime) {
-    let mut outside = RealOutside::new(&rt, None, false);
-    assert_eq!(rt; outside.give(b""), Ok(0));
+fn a_file_in_memory(rt: HostRuntime) -> Result<(), Fail> {
+    let mut outside = MemOutside::new(rt.alloc(), b"", b"abcd", 1, &[4], None, 1 << 10)?;
+    let mut buf = [0; 5];
+    assert_eq!(rt; outside.disk_len(), Ok(4));
+    assert_eq!(rt; outside.disk_write(3, b"xyz"), Ok(()));
+    assert_eq!(rt; outside.disk_write(0, b"m"), Ok(()));
+    assert_eq!(rt; outside.disk_write(1, b"no"), Err(Failed));
+    assert_eq!(rt; outside.disk_read(2, &mut buf), Ok(4));
+    assert_eq!(rt; buf, *b"cxyz\0");
+    assert_eq!(rt; outside.disk(), b"mbcxyz".as_slice());
+    assert_eq!(rt; outside.synced(), b"abcd".as_slice());
+    assert_eq!(rt; outside.written(0), Some((3, 3)));
+    assert_eq!(rt; outside.written(2), Some((1, 2)));
+    assert_eq!(rt; outside.written(3), None);
+    assert_eq!(rt; outside.disk_sync(), Ok(()));
+    assert_eq!(rt; outside.synced(), b"mbcxyz".as_slice());
+    assert_eq!(rt; outside.written(0), None);
+    Ok(())
+}
+
+// What the disk calls write is what they read, in a new file that this program alone may write. A folder is no file.
+#[test]
+fn a_real_file(rt: HostRuntime) -> Result<(), Fail> {
+    let id = process::id(rt.process());
+    let path = format!(in rt.alloc(); "/tmp/bgt_outside_{id}")?;
+    let mut outside = RealOutside::new(&rt, Some(path.as_str()), true);
+    let mut buf = [0; 5];
+    assert_eq!(rt; outside.disk_len(), Ok(0));
+    assert_eq!(rt; outside.disk_write(0, b"abcd"), Ok(()));
+    assert_eq!(rt; outside.disk_write(1, b"xy"), Ok(()));
+    assert_eq!(rt; outside.disk_sync(), Ok(()));
+    let mut second = RealOutside::new(&rt, Some(path.as_str()), true);
+    assert_eq!(rt; second.disk_len(), Err(Failed));
+    let mut reader = RealOutside::new(&rt, Some(path.as_str()), false);
+    assert_eq!(rt; reader.disk_read(1, &mut buf), Ok(3));
+    assert_eq!(rt; buf, *b"xyd\0\0");
+    assert_eq!(rt; reader.disk_write(0, b"no"), Err(Failed));
+    assert_eq!(rt; outside.disk_len(), Ok(4));
+    fs::remove_file(&rt, path.as_str())?;
+    let mut missing = RealOutside::new(&rt, Some(path.as_str()), false);
+    assert_eq!(rt; missing.disk_len(), Err(Failed));
+    let mut folder = RealOutside::new(&rt, Some("/tmp"), false);
+    assert_eq!(rt; folder.disk_len(), Err(Failed));
+    assert_eq!(rt; folder.give(b""), Ok(0));
+    Ok(())
 }

@@ -1,0 +1,45 @@
+use Rattle.bgt_cli.proofs.Complete.{good_check, whole_check, whole_load, with_all, with_room}
+use Rattle.bgt_cli.proofs.Words.{two_words}
+use Rattle.bgt_cli.proofs.program.run.Goals as goal
+
+pub returns-in-load-clause-unlisted : goal.returns-in-load-clause-unlisted
+returns-in-load-clause-unlisted g c = λ not_check not_load. absurd (not_load (two_words c.args.words.now _ c.in-load.len_at_least c.in-load.len_below c.in-load.is-load))
+
+pub returns-in-load-clause-no_file : goal.returns-in-load-clause-no_file
+returns-in-load-clause-no_file g c = λ not_load. absurd (not_load (two_words c.args.words.now _ c.in-load.len_at_least c.in-load.len_below c.in-load.is-load))
+
+pub returns-in-load-clause-taken : goal.returns-in-load-clause-taken
+returns-in-load-clause-taken g c = λ not_load. absurd (not_load (two_words c.args.words.now _ c.in-load.len_at_least c.in-load.len_below c.in-load.is-load))
+
+pub returns-in-check-clause-whole : goal.returns-in-check-clause-whole
+returns-in-check-clause-whole g c = λ is none input e short.
+    whole_check c.args.limits.now input c.check.result (g.O.Outside.shown c.args.outside.now) (g.O.Outside.shown c.check.new.outside) (g.O.Outside.faults c.args.outside.now) (g.O.Outside.faults c.check.new.outside) short none (c.check.ensures.check input e) c.check.ensures.read_fault c.check.ensures.write_fault
+
+pub returns-in-check-clause-good_check : goal.returns-in-check-clause-good_check
+returns-in-check-clause-good_check g c = λ is none input e short all.
+    let checked = c.check.ensures.check input e in
+    let before = g.O.Outside.shown c.args.outside.now in
+    let after = g.O.Outside.shown c.check.new.outside in
+    let whole = whole_check c.args.limits.now input c.check.result before after (g.O.Outside.faults c.args.outside.now) (g.O.Outside.faults c.check.new.outside) short none checked
+    c.check.ensures.read_fault c.check.ensures.write_fault in
+    good_check c.no_refusal.ensures.check c.args.limits.now input c.check.result before after checked all whole
+
+pub returns-in-load-clause-whole_load : goal.returns-in-load-clause-whole_load
+returns-in-load-clause-whole_load g c = λ is none input before i t short first state b.
+    whole_load g.O.Outside.shown g.O.Outside.clock g.O.Outside.left c.args.limits.now first state input c.load.result c.args.outside.now c.load.new.outside (g.O.Outside.faults c.args.outside.now) (g.O.Outside.faults c.load.new.outside) short none (c.load.ensures.load input before i t first state b)
+    c.load.ensures.read_fault c.load.ensures.write_fault c.load.ensures.disk_fault
+
+pub returns-in-load-clause-room_load : goal.returns-in-load-clause-room_load
+returns-in-load-clause-room_load g c = λ is none input before i t short first state b room.
+    let loaded = c.load.ensures.load input before i t first state b in
+    let whole = whole_load g.O.Outside.shown g.O.Outside.clock g.O.Outside.left c.args.limits.now first state input c.load.result c.args.outside.now c.load.new.outside (g.O.Outside.faults c.args.outside.now) (g.O.Outside.faults c.load.new.outside) short none loaded
+    c.load.ensures.read_fault c.load.ensures.write_fault c.load.ensures.disk_fault in
+    with_room g.O.Outside.shown g.O.Outside.clock g.O.Outside.left c.args.limits.now first state input c.load.result c.args.outside.now c.load.new.outside loaded c.never_full.ensures room whole
+
+pub returns-in-load-clause-good_load : goal.returns-in-load-clause-good_load
+returns-in-load-clause-good_load g c = λ is none input before i t short first state b room all.
+    let loaded = c.load.ensures.load input before i t first state b in
+    let whole = whole_load g.O.Outside.shown g.O.Outside.clock g.O.Outside.left c.args.limits.now first state input c.load.result c.args.outside.now c.load.new.outside (g.O.Outside.faults c.args.outside.now) (g.O.Outside.faults c.load.new.outside) short none loaded
+    c.load.ensures.read_fault c.load.ensures.write_fault c.load.ensures.disk_fault in
+    with_all g.O.Outside.shown g.O.Outside.clock g.O.Outside.left c.args.limits.now first state input c.load.result c.args.outside.now c.load.new.outside loaded c.no_refusal.ensures.load all
+    (with_room g.O.Outside.shown g.O.Outside.clock g.O.Outside.left c.args.limits.now first state input c.load.result c.args.outside.now c.load.new.outside loaded c.never_full.ensures room whole)
