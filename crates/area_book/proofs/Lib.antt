@@ -1,8 +1,10 @@
-pub mod BookLists
-pub mod Fitting
+pub mod Boxes
+pub mod Currents
+pub mod Ending
 pub mod Holders
-pub mod InPlace
 pub mod ListsApart
 pub mod Meeting
 pub mod Pairs
+pub mod Renewed
 pub mod Setting
+pub mod Standings

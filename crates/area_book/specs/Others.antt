@@ -27,6 +27,10 @@ abbrev pub ComesBefore : List ℕ → Option (List ℕ) → Type 0
 ComesBefore holder None = Unit {0}
 ComesBefore holder (Some least) = slice_cmp nat_cmp holder least ≡ Less
 
+-- another holder than this one, who comes before the one that was found
+abbrev pub ComesFirst : List ℕ → Option (List ℕ) → List ℕ → Type 0
+ComesFirst own found holder = (holder ≢ own) × ComesBefore holder found
+
 -- a current area of another holder, who comes before the one that was found
 abbrev pub IsAsked : List ℕ → Option (List ℕ) → AreaVersion → Type 0
 IsAsked own found a = IsOthers own a × ComesBefore a.holder found

@@ -1,19 +1,17 @@
-ghost use Rattle.std.specs.Prelude.{◌≡◌, ◌<◌, ◌^◌, ◌≤◌, ◌<ℤ◌, ◌≤ℤ◌, ◌++◌, ◌∷◌, [], length, find, map, IfErr, IfSome, IsNone, None, OnErr, OnOk, slice_get, take, vec_len, vec_capacity, ◌↔◌};
+ghost use Rattle.std.specs.Prelude.{◌≡◌, ◌<◌, ◌^◌, ◌≤◌, ◌<ℤ◌, ◌≤ℤ◌, [], length, find, IfErr, IfSome, IsNone, OnErr, OnOk, slice_get, ◌↔◌};
 ghost use Rattle.std.specs.List.{All};
 ghost use Rattle.std.specs.Option.{option_copied};
 ghost use Rattle.part_shape.specs.Counted.{AreCounted};
-ghost use Rattle.area_book.specs.declared.booked.Booked.{Booked};
-ghost use Rattle.area_book.specs.Booked.{booked_ended, end_kept, end_restored, versions_of};
-ghost use Rattle.area_book.specs.Areas.{BookView, areas_with, is_area_of as is_area_in, later_of as later_in, new_area, newest_area};
+ghost use Rattle.area_book.specs.Areas.{BookView, areas_with, is_area_of as is_area_in, newest_area};
 ghost use Rattle.area_book.specs.Rule.{IsAreaFault, KeepsAreas};
 
-use crate::booked::Booked;
+use crate::current::{Current, current_of};
 use crate::fault::AreaFault;
 use crate::judge::judged;
+use crate::undo::{Replaced, replace_area, take_all_back};
 use crate::version::AreaVersion;
 use field_text::Moment;
 use imgeo_types::Holder;
-use part_shape::ShapeList;
 use rd_plane::Shapes;
 use std::alloc::Global;
 use std::marker::Model;
@@ -21,148 +19,22 @@ use std::marker::Model;
 /// All versions of areas in order of making. Contracts see that list, and the list as at the last `keep`.
 #[derive(Drop)]
 pub struct AreaBook {
-    booked: Vec<Booked>,
-    // How many versions there were at the last `keep`.
-    kept: usize,
+    areas: Vec<AreaVersion>,
+    // Of each holder that has an area the current one.
+    current: Vec<Current>,
+    // What the areas that were set since the last `keep` stand in the place of, one for each.
+    undo: Vec<Option<Replaced>>,
 }
 
 impl Model for AreaBook {
     ghost use Rattle.area_book.specs.Areas.{BookView};
-    ghost use Rattle.area_book.specs.Booked.{Fits, kept_versions, versions_of};
+    ghost use Rattle.area_book.specs.Standing.{Fits, stood};
 
     ghost Value = { BookView };
 
-    ghost view = { λ b. record { areas = versions_of b.booked.items; kept = kept_versions b.kept b.booked.items } };
+    ghost view = { λ b. record { areas = b.areas.items; kept = (stood b.undo.items (record { areas = b.areas.items; current = b.current.items })).areas } };
 
-    ghost invariant = { λ b. Fits b.booked.items b.kept };
-}
-
-// Whether it is the current version of the holder's area.
-fn is_area_of(area: &AreaVersion, holder: Holder) -> bool
-    ensures { result ≡ is_area_in holder area.now }
-{
-    area.holder == holder && area.until.is_none()
-}
-
-fn later_of(latest: Option<Moment>, moment: Moment) -> Option<Moment>
-    ensures { result ≡ later_in latest moment }
-{
-    let Some(before) = latest else {
-        return Some(moment);
-    };
-    if before < moment {
-        return Some(moment);
-    }
-    Some(before)
-}
-
-// Ends the version, where it is the holder's current one.
-fn end_one(one: &mut Booked, holder: Holder, moment: Moment)
-    ensures { one.new ≡ booked_ended holder moment one.old }
-{
-    if is_area_of(&one.version, holder) {
-        one.version.until = Some(moment);
-    }
-}
-
-// Ends the holder's current version.
-fn end_area(booked: &mut [Booked], holder: Holder, moment: Moment)
-    ensures { booked.new ≡ map (booked_ended holder moment) booked.old }
-{
-    for one in booked.iter_mut() {
-        end_one(one, holder, moment);
-    }
-}
-
-fn keep_end(one: &mut Booked)
-    ensures { one.new ≡ end_kept one.old }
-{
-    one.kept_until = one.version.until;
-}
-
-// Keeps the end of each version.
-fn keep_ends(booked: &mut [Booked])
-    ensures { booked.new ≡ map end_kept booked.old }
-{
-    for one in booked.iter_mut() {
-        keep_end(one);
-    }
-}
-
-fn restore_end(one: &mut Booked)
-    ensures { one.new ≡ end_restored one.old }
-{
-    one.version.until = one.kept_until;
-}
-
-// Gives each version the end that was kept.
-fn restore_ends(booked: &mut [Booked])
-    ensures { booked.new ≡ map end_restored booked.old }
-{
-    for one in booked.iter_mut() {
-        restore_end(one);
-    }
-}
-
-// The holder's current version.
-fn current_of(booked: &[Booked], holder: Holder) -> Option<&AreaVersion>
-    ensures { option_copied result ≡ find (is_area_in holder) (versions_of booked.now) }
-{
-    for one in booked {
-        if is_area_of(&one.version, holder) {
-            return Some(&one.version);
-        }
-    }
-    None
-}
-
-// The greatest moment from which a version holds.
-fn newest_of(booked: &[Booked]) -> Option<Moment>
-    ensures { result ≡ newest_area (versions_of booked.now) }
-{
-    let mut latest = None;
-    for one in booked {
-        latest = later_of(latest, one.version.since);
-    }
-    latest
-}
-
-// Ends the holder's current version, and adds one, for which there is room.
-fn replace_area(booked: &mut Vec<Booked>, holder: Holder, moment: Moment, shapes: ShapeList)
-    requires { vec_len booked.old < vec_capacity booked.old }
-    ensures { booked.new.items ≡ map (booked_ended holder moment) booked.old.items ++ record { version = new_area holder moment shapes; kept_until = None } ∷ [] }
-{
-    end_area(booked, holder, moment);
-    let version = AreaVersion {
-        holder,
-        shapes,
-        since: moment,
-        until: None,
-    };
-    let Ok(()) = booked.push(Booked {
-        version,
-        kept_until: None,
-    }) else {
-        unreachable!();
-    };
-}
-
-// Keeps the end of each version, and tells how many there are.
-fn keep_all(booked: &mut Vec<Booked>) -> usize
-    ensures items { booked.new.items ≡ map end_kept booked.old.items }
-    ensures count { result ≡ length booked.old.items }
-{
-    let count = booked.len();
-    keep_ends(booked);
-    count
-}
-
-// Takes the versions away behind the first `kept` ones, and gives those the ends that were kept.
-fn restore_all(booked: &mut Vec<Booked>, kept: usize)
-    ensures { booked.new.items ≡ map end_restored (take kept booked.old.items) }
-{
-    booked.truncate(kept);
-    restore_ends(booked);
+    ghost invariant = { λ b. Fits b.areas.items b.current.items b.undo.items };
 }
 
 impl AreaBook {
@@ -171,8 +43,9 @@ impl AreaBook {
         ensures { result ≡ record { areas = []; kept = [] } }
     {
         AreaBook {
-            booked: Vec::new(alloc),
-            kept: 0,
+            areas: Vec::new(alloc),
+            current: Vec::new(alloc),
+            undo: Vec::new(alloc),
         }
     }
 
@@ -180,7 +53,7 @@ impl AreaBook {
     pub fn count(&self) -> usize
         ensures { result ≡ length self.now.areas }
     {
-        self.booked.len()
+        self.areas.len()
     }
 
     /// The version at this place, in order of making. `None` exactly at `count` and above.
@@ -188,14 +61,14 @@ impl AreaBook {
         ensures value { option_copied result ≡ slice_get self.now.areas place }
         ensures none { IsNone result ↔ (length self.now.areas ≤ place) }
     {
-        let booked = self.booked.get(place)?;
-        Some(&booked.version)
+        self.areas.get(place)
     }
 
     /// The shapes become the holder's area from the moment on, as a version of their own; the one that was current ends there.
     ///
     /// An `Err` names the first reason: a shape that is not sound, two shapes that do not keep apart, another holder with
-    /// whose area they share a point. It looks at each version once, and at each current area whose box meets a shape's.
+    /// whose area they share a point. It looks at each current area once, and at the shapes of those whose boxes meet the
+    /// box of these. Versions that have ended cost nothing.
     pub fn set_area(
         &mut self,
         alloc: Global,
@@ -212,40 +85,52 @@ impl AreaBook {
         ensures err { OnErr result (self.new.areas ≡ self.old.areas) }
         ensures kept { self.new.kept ≡ self.old.kept }
     {
-        let own = match judged(alloc, &self.booked, holder, shapes) {
+        let own = match judged(alloc, &self.areas, &self.current, holder, shapes) {
             Ok(own) => own,
             Err(fault) => return Err(fault),
         };
-        self.booked.reserve(1)?;
-        replace_area(&mut self.booked, holder, moment, own);
+        self.areas.reserve(1)?;
+        self.current.reserve(1)?;
+        self.undo.reserve(1)?;
+        replace_area(
+            &mut self.areas,
+            &mut self.current,
+            &mut self.undo,
+            holder,
+            moment,
+            own,
+        );
         Ok(())
     }
 
-    /// From here on, `roll_back` gives back the list as it is now. Takes no memory.
+    /// From here on, `roll_back` gives back the list as it is now. Takes no memory, and costs the areas that were set since
+    /// the last `keep`.
     pub fn keep(&mut self)
         ensures { self.new ≡ record { areas = self.old.areas; kept = self.old.areas } }
     {
-        self.kept = keep_all(&mut self.booked);
+        self.undo.clear();
     }
 
-    /// Gives back the list as it was at the last `keep`. Takes no memory.
+    /// Gives back the list as it was at the last `keep`. Takes no memory, and costs the areas that were set since.
     pub fn roll_back(&mut self)
         ensures { self.new ≡ record { areas = self.old.kept; kept = self.old.kept } }
     {
-        restore_all(&mut self.booked, self.kept);
+        take_all_back(&mut self.areas, &mut self.current, &mut self.undo);
     }
 
-    /// The holder's current version. `None` exactly where it has none. Linear in the versions.
+    /// The holder's current version. `None` exactly where it has none. Linear in the holders that have an area.
     pub fn current(&self, holder: Holder) -> Option<&AreaVersion>
         ensures { option_copied result ≡ find (is_area_in holder) self.now.areas }
     {
-        current_of(&self.booked, holder)
+        current_of(&self.areas, &self.current, holder)
     }
 
-    /// The greatest moment from which a version holds. `None` exactly where there is no version. Linear in the versions.
+    /// The greatest moment from which a version holds. `None` exactly where there is no version. That of the version that was
+    /// made last: it costs nothing.
     pub fn last_moment(&self) -> Option<Moment>
         ensures { result ≡ newest_area self.now.areas }
     {
-        newest_of(&self.booked)
+        let last = self.areas.last()?;
+        Some(last.since)
     }
 }

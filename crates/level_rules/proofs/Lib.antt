@@ -1,4 +1,5 @@
 pub mod PairOrder
+pub mod Spoken
 pub mod Named
 pub mod Newest
 pub mod Searched

@@ -1,5 +1,5 @@
 -- The level rule: two objects of the plane at one level other than 0 share no point off their borders.
-use Rattle.std.specs.Prelude.{◌≡◌, ◌≢◌, ◌⊎◌, ◌<◌, ℕ, pos, List, length, slice_index_or, IsTrue, Some}
+use Rattle.std.specs.Prelude.{◌≡◌, ◌≢◌, ◌⊎◌, ◌<◌, ℕ, pos, List, length, slice_index_or, IsTrue, IsSome, Some}
 use Rattle.std.specs.Bool.{if◌then◌else◌}
 use Rattle.std.specs.Cmp.Lexicographic.{slice_cmp}
 use Rattle.std.specs.FinMap as map
@@ -14,6 +14,10 @@ use Rattle.slab_wind.specs.Sharing.{Share}
 use Rattle.imgeo_types.specs.Kinds.{is_plane}
 use Rattle.part_shape.specs.Faults.{corners_of}
 use Rattle.level_rules.specs.declared.item.LevelItem.{LevelItem}
+
+-- the rule speaks of the object: it is at a level other than 0, and of the plane
+abbrev pub IsLevelled : LevelItem → Type 0
+IsLevelled x = (x.level ≢ pos 0) × IsTrue (is_plane x.kind)
 
 -- the two are at one level other than 0, both of the plane, and share a point off their borders
 pub record BreakLevels (x y : LevelItem) : Type 0 where
@@ -61,6 +65,11 @@ BreaksWith items mates pair = BreaksIn items pair ⊎ BreaksBetween items mates 
 -- each slot of the index is a place of a mate, and has the box of its shape
 abbrev pub IsIndexOf : List LevelItem → map.FinMap nat_cmp Box → Type 0
 IsIndexOf mates index = (slot : ℕ) (box : Box) → map.get index slot ≡ Some box → (slot < length mates) × ((d : LevelItem) → IsLeastBox (corners_of (slice_index_or mates slot d).shape) box)
+
+-- of the first so many objects the index has just those that the rule speaks of, each with its box under its place
+pub record HasBoxes (objects : List LevelItem) (index : map.FinMap nat_cmp Box) (to : ℕ) : Type 0 where
+  pub boxes : (slot : ℕ) (box : Box) → map.get index slot ≡ Some box → (slot < to) × ((d : LevelItem) → IsLevelled (slice_index_or objects slot d) × IsLeastBox (corners_of (slice_index_or objects slot d).shape) box)
+  pub whole : (slot : ℕ) → slot < to → ((d : LevelItem) → IsLevelled (slice_index_or objects slot d)) → IsSome (map.get index slot)
 
 -- the mate stands in the index, and its identification is not one of those that leave
 pub record Stays (mates : List LevelItem) (index : map.FinMap nat_cmp Box) (leaving : List (List ℕ)) (mate : LevelItem) : Type 0 where

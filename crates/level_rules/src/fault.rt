@@ -1,11 +1,11 @@
-ghost use Rattle.std.specs.Prelude.{◌≡◌, ◌≢◌, ◌⊎◌, ◌↔◌, ◌<◌, ℕ, List, Contains, IfOk, IsFalse, IsTrue, MatchOption, length, slice_index_or, pos};
-ghost use Rattle.imgeo_types.specs.Kinds.{is_plane};
+ghost use Rattle.std.specs.Prelude.{◌≡◌, ◌≢◌, ◌⊎◌, ◌↔◌, ◌+◌, ◌<◌, ℕ, List, Contains, IfOk, IsTrue, MatchOption, OnOk, length, slice_index_or};
 ghost use Rattle.level_rules.specs.declared.item.LevelItem.{LevelItem as Item};
 ghost use Rattle.rd_plane.specs.Improving.{Improves};
-ghost use Rattle.level_rules.specs.Levels.{BreakLevels, BreaksNew, IsIndexOf, IsLeastFault, pair_cmp, pair_of as pair_in};
-ghost use Rattle.level_rules.specs.Pairs.{IsPairOf, PairsAt, PairsBehind, PairsMate};
+ghost use Rattle.level_rules.specs.Levels.{BreakLevels, BreaksNew, HasBoxes, IsIndexOf, IsLeastFault, IsLevelled, pair_cmp, pair_of as pair_in};
+ghost use Rattle.level_rules.specs.Pairs.{IsPairOf, PairsEarlier, PairsMate};
 ghost use Rattle.std.specs.declared.cmp.Ordering.TheVariants.{Less};
 
+use crate::boxes::put_box;
 use crate::item::{LevelItem, LevelItems};
 use crate::names::{is_named, set_of};
 use box_index::BoxIndex;
@@ -15,13 +15,6 @@ use std::alloc::Global;
 use std::cmp::Ordering;
 use std::collections::BTreeSet;
 
-// Whether the rule speaks of the object.
-fn is_levelled(item: &LevelItem) -> bool
-    ensures { IsTrue result ↔ ((item.now.level ≢ pos 0) × IsTrue (is_plane item.now.kind)) }
-{
-    item.level != 0 && item.kind.plane()
-}
-
 // Whether the two objects break the rule.
 fn breaks(alloc: Global, x: &LevelItem, y: &LevelItem) -> Result<bool, NoMemory>
     ensures { IfOk result (λ broken. IsTrue broken ↔ BreakLevels x.now y.now) }
@@ -29,10 +22,10 @@ fn breaks(alloc: Global, x: &LevelItem, y: &LevelItem) -> Result<bool, NoMemory>
     if x.level != y.level {
         return Ok(false);
     }
-    if !is_levelled(x) {
+    if !x.is_levelled() {
         return Ok(false);
     }
-    if !is_levelled(y) {
+    if !y.is_levelled() {
         return Ok(false);
     }
     x.shape.shares(alloc, &y.shape)
@@ -75,23 +68,6 @@ fn tried(
         return Ok(Some(pair));
     };
     Ok(Some(lesser(found.0, found.1, pair.0, pair.1)))
-}
-
-// The lesser of the pair that was found so far and of the object at i with each of those behind it.
-fn tried_behind(
-    alloc: Global,
-    least: Option<(Ident, Ident)>,
-    items: &[LevelItem],
-    i: usize,
-) -> Result<Option<(Ident, Ident)>, NoMemory>
-    requires { i < length items.now }
-    ensures { IfOk result (λ new. Improves pair_cmp (PairsBehind items.now i (length items.now)) least new) }
-{
-    let mut found = least;
-    for j in i + 1..items.len() {
-        found = tried(alloc, found, &items[i], &items[j])?;
-    }
-    Ok(found)
 }
 
 // The lesser of the pair that was found so far and of the object with the mate, unless it leaves.
@@ -138,32 +114,32 @@ fn tried_mates(
     Ok(found)
 }
 
-// The same of the object at i, with those behind it and with the mates that stay.
-fn tried_item(
+// The same of the object at i with those before it, of which none leaves. Its own box goes into their index.
+fn tried_earlier(
     alloc: Global,
     least: Option<(Ident, Ident)>,
     items: &[LevelItem],
     i: usize,
-    mates: &[LevelItem],
-    index: &BoxIndex,
-    leaving: &BTreeSet<Ident>,
+    own: &mut BoxIndex,
 ) -> Result<Option<(Ident, Ident)>, NoMemory>
     requires inside { i < length items.now }
-    requires index { IsIndexOf mates.now index.now }
-    ensures { IfOk result (λ new. Improves pair_cmp (PairsAt items.now mates.now index.now leaving.now.keys i) least new) }
+    requires levelled { (d : Item) → IsLevelled (slice_index_or items.now i d) }
+    requires own { HasBoxes items.now own.old i }
+    ensures least { IfOk result (λ new. Improves pair_cmp (PairsEarlier items.now i) least new) }
+    ensures own { OnOk result (HasBoxes items.now own.new (i + 1)) }
 {
-    let item = &items[i];
-    if !is_levelled(item) {
-        return Ok(least);
-    }
-    let behind = tried_behind(alloc, least, items, i)?;
-    tried_mates(alloc, behind, item, mates, index, leaving)
+    let none = BTreeSet::new(alloc);
+    let found = tried_mates(alloc, least, &items[i], items, own, &none)?;
+    put_box(own, items, i)?;
+    Ok(found)
 }
 
 /// The least pair that breaks the level rule, of a new object with another or with a mate that stays: one whose place is a
 /// slot of the index, and whose identification is not one of those that leave. `None` exactly where there is none.
 ///
-/// Those that leave go into a set first, so that a mate near a new object costs the logarithm of their number.
+/// A new object that the rule does not speak of costs one look. Each other one is compared with the mates and with the new
+/// ones before it whose boxes meet its own; what that costs beside, `BoxIndex::meeting` says. Those that leave go into a set
+/// first, so that a mate near a new object costs the logarithm of their number.
 pub fn level_fault(
     alloc: Global,
     items: &LevelItems,
@@ -175,10 +151,15 @@ pub fn level_fault(
     ensures { IfOk result (λ found. MatchOption found ((pair : List ℕ × List ℕ) → BreaksNew items.now mates.now index.now leaving.now pair → ⊥) (IsLeastFault items.now mates.now index.now leaving.now)) }
 {
     let gone = set_of(alloc, leaving.as_slice())?;
+    let mut own = BoxIndex::new(alloc);
     let mut least = None;
     let all = items.as_slice();
     for i in 0..all.len() {
-        least = tried_item(alloc, least, all, i, mates.as_slice(), index, &gone)?;
+        if !all[i].is_levelled() {
+            continue;
+        }
+        least = tried_earlier(alloc, least, all, i, &mut own)?;
+        least = tried_mates(alloc, least, &all[i], mates.as_slice(), index, &gone)?;
     }
     Ok(least)
 }
