@@ -12,16 +12,15 @@ use Rattle.message_text.specs.declared.message.Message.{Message}
 use Rattle.message_text.specs.declared.message.Mutation.{Mutation}
 use Rattle.version_history.specs.declared.version.Version.{Version}
 use Rattle.version_history.specs.Versions.{current_of, has_ident, is_current, is_current_of, last_of}
-use Rattle.map_core.specs.declared.last.LastMessage.{LastMessage}
-use Rattle.map_core.specs.After.{areas_after, begun, last_after, touched_by, versions_after}
-use Rattle.map_core.specs.State.{is_object_of, moment_of}
+use Rattle.map_rules.specs.declared.last.LastMessage.{LastMessage}
+use Rattle.map_rules.specs.After.{after, areas_after, begun, last_after, touched_by, versions_after}
+use Rattle.map_rules.specs.State.{State, area_at, holds_at, is_area_at, is_object_at, is_object_of, map_now, moment_of, part_of, parts_at, parts_now}
 use Rattle.area_book.specs.declared.version.AreaVersion.{AreaVersion}
 use Rattle.area_book.specs.Areas.{area_ended, area_of, is_area_of, new_area}
 use Rattle.area_book.proofs.Setting.{same_holder}
-use Rattle.moment_law.specs.Held.{Held, after, area_at, holds_at, is_area_at, is_object_at, map_now, part_of, parts_at, parts_now}
-use Rattle.map_core.proofs.Dating.{moment_after, moment_of_others}
-use Rattle.moment_law.proofs.Taken.{same_map}
-use Rattle.moment_law.proofs.Touching.{touched-holder, touched-ident}
+use Rattle.map_rules.proofs.Dating.{moment_after, moment_of_others}
+use Rattle.map_rules.proofs.Taken.{same_map}
+use Rattle.map_rules.proofs.Touching.{touched-holder, touched-ident}
 use Rattle.alone_law.specs.Agreeing.{AgreeOn, concerns, is_area_version}
 use Rattle.alone_law.specs.Replaying.{LookAlike, is_version_of}
 use Rattle.alone_law.proofs.Filters.{filter-map, same-count, same-filter, same-find, same-find_last}
@@ -29,13 +28,13 @@ use Rattle.alone_law.proofs.Filters.{filter-map, same-count, same-filter, same-f
 abbrev Shapes : Type 0
 Shapes = List (List (List Vertex))
 
-pub agree_itself : (h : List ℕ) (s : Held) → AgreeOn h s s
+pub agree_itself : (h : List ℕ) (s : State) → AgreeOn h s s
 agree_itself h s = record { versions = refl; areas = refl; last = refl }
 
-pub agree_back : (h : List ℕ) (s t : Held) → AgreeOn h s t → AgreeOn h t s
+pub agree_back : (h : List ℕ) (s t : State) → AgreeOn h s t → AgreeOn h t s
 agree_back h s t a = record { versions = sym a.versions; areas = sym a.areas; last = sym a.last }
 
-pub agree_then : (h : List ℕ) (s t u : Held) → AgreeOn h s t → AgreeOn h t u → AgreeOn h s u
+pub agree_then : (h : List ℕ) (s t u : State) → AgreeOn h s t → AgreeOn h t u → AgreeOn h s u
 agree_then h s t u a b = record { versions = a.versions ∙ b.versions; areas = a.areas ∙ b.areas; last = a.last ∙ b.last }
 
 -- ---- what is narrower
@@ -56,7 +55,7 @@ code_concerns h v e = or_first (bytes_eq (holder_of v.ident) h) (bytes_eq v.hold
 ident_concerns : (h ident : List ℕ) → holder_of ident ≡ h → (v : Version) → has_ident ident v ≡ true → concerns h v ≡ true
 ident_concerns h ident q v e = code_concerns h v ((bytes_eq-Decides (holder_of v.ident) h).1 (ap (λ (i : List ℕ). holder_of i) ((bytes_eq-Decides v.ident ident).0 e) ∙ q))
 
-module _ (h : List ℕ) (s t : Held) (a : AgreeOn h s t) where
+module _ (h : List ℕ) (s t : State) (a : AgreeOn h s t) where
   pub same_current : (ident : List ℕ) → holder_of ident ≡ h → current_of ident s.versions ≡ current_of ident t.versions
   same_current ident q = same-find (is_current_of ident) (concerns h) (λ v e. ident_concerns h ident q v (and_parts (has_ident ident v) (is_current v) e).0) s.versions t.versions a.versions
 
@@ -117,7 +116,7 @@ same_moment_then h holder moment xs ys e = elim (cases_Bool (bytes_eq holder h))
     own : (g : List ℕ) → holder ≡ g → moment_of g (last_after holder moment xs) ≡ moment_of g (last_after holder moment ys)
     own g q = ap (λ (i : List ℕ). moment_of i (last_after holder moment xs)) (sym q) ∙ moment_after holder moment xs ∙ sym (moment_after holder moment ys) ∙ ap (λ (i : List ℕ). moment_of i (last_after holder moment ys)) q
 
-pub agree_after : (h : List ℕ) (s t : Held) (m : Message) → AgreeOn h s t → AgreeOn h (after s m) (after t m)
+pub agree_after : (h : List ℕ) (s t : State) (m : Message) → AgreeOn h s t → AgreeOn h (after s m) (after t m)
 agree_after h s t m a = record {
   versions = versions_then h m.holder m.moment m.mutations s.versions ∙ ap (λ (l : List Version). map (touched_by m.moment m.mutations) l ++ filter (concerns h) (flat_map (begun m.holder m.moment) m.mutations)) a.versions ∙ sym (versions_then h m.holder m.moment m.mutations t.versions);
   areas = same_areas_then h m.holder m.moment m.area s.areas t.areas a.areas;

@@ -13,22 +13,21 @@ use Rattle.rd_plane.specs.Plane.{Vertex}
 use Rattle.message_text.specs.declared.limits.Limits.{Limits}
 use Rattle.message_text.specs.declared.message.Message.{Message}
 use Rattle.rd_plane.specs.Rule.{when}
-use Rattle.map_core.specs.declared.last.LastMessage.{LastMessage}
-use Rattle.map_core.specs.declared.refusal.Refusal.TheVariants as refusal
-use Rattle.map_core.specs.declared.refusal.FullName.TheVariants.{Objects}
-use Rattle.map_core.specs.After.{areas_after, last_after}
-use Rattle.map_core.specs.Rules.{earlier, not_later}
-use Rattle.map_core.specs.State.{moment_of}
+use Rattle.map_rules.specs.declared.last.LastMessage.{LastMessage}
+use Rattle.map_rules.specs.declared.refusal.Refusal.TheVariants as refusal
+use Rattle.map_rules.specs.declared.refusal.FullName.TheVariants.{Objects}
+use Rattle.map_rules.specs.After.{after, areas_after, last_after}
+use Rattle.map_rules.specs.Rules.{earlier, not_later}
+use Rattle.map_rules.specs.State.{State, moment_of, opening}
 use Rattle.area_book.specs.declared.version.AreaVersion.{AreaVersion}
 use Rattle.area_book.specs.Areas.{area_ended, is_area_of, later_of, new_area, newest_area}
 use Rattle.area_book.proofs.Holders.{apart_from_none}
 use Rattle.local_check.specs.MapRules.{MapRule}
 use Rattle.local_check.specs.Maps.{HolderParts}
-use Rattle.moment_law.specs.Good.{Good}
-use Rattle.moment_law.specs.Held.{Held, after, nothing}
-use Rattle.moment_law.proofs.Lists.{all_mapped}
-use Rattle.moment_law.proofs.Stepping.{step_good}
-use Rattle.moment_law.proofs.Moments.{lt_false, lt_true}
+use Rattle.map_rules.specs.Good.{Good}
+use Rattle.map_rules.proofs.Lists.{all_mapped}
+use Rattle.map_rules.proofs.Stepping.{passed_good}
+use Rattle.map_rules.proofs.Moments.{lt_false, lt_true}
 use Rattle.alone_law.specs.Agreeing.{AgreeOn, AreAtHome, IsAtHome, IsLocal, is_area_version, is_foreign}
 use Rattle.alone_law.specs.Folding.{Replays}
 use Rattle.alone_law.specs.Judging.{Cause, AreaRule, Judged, no_holder_more}
@@ -113,7 +112,7 @@ grow_alike true n k i j e f l = omega (arith, e, f, l)
 grow_alike false n k i j e f l = omega (arith, e, f, l)
 
 -- ---- the state that has the holder alone
-pub record IsAlone (h : List ℕ) (s t : Held) : Type 0 where
+pub record IsAlone (h : List ℕ) (s t : State) : Type 0 where
   pub areas : All (λ (a : AreaVersion). is_area_version h a ≡ true) t.areas
   pub few : length t.last ≤ length s.last
 
@@ -127,7 +126,7 @@ no_other h k (x ∷ areas) d a =
     let n : bytes_eq x.holder k ≡ false = differs x.holder k (λ q. d (sym q ∙ (bytes_eq-Decides x.holder h).0 (All-head (λ (y : AreaVersion). is_area_version h y ≡ true) x areas a))) in
     ap (λ (b : Bool). cond (b && is_none x.until) (Some x) (find (is_area_of k) areas)) n ∙ no_other h k areas d (All-tail (λ (y : AreaVersion). is_area_version h y ≡ true) x areas a)
 
-module _ (limits : Limits) (s t : Held) (m : Message) (a : AgreeOn m.holder s t) (alone : IsAlone m.holder s t) (l : IsLocal m.holder m) where
+module _ (limits : Limits) (s t : State) (m : Message) (a : AgreeOn m.holder s t) (alone : IsAlone m.holder s t) (l : IsLocal m.holder m) where
   areas_are : filter (is_area_version m.holder) s.areas ≡ t.areas
   areas_are = a.areas ∙ kept_all (is_area_version m.holder) t.areas alone.areas
 
@@ -170,7 +169,7 @@ module _ (limits : Limits) (s t : Held) (m : Message) (a : AgreeOn m.holder s t)
         (last_length m.holder m.moment s.last ∙ ap (λ (o : Option ℤ). cond (is_none o) (length s.last + 1) (length s.last)) a.last) (last_length m.holder m.moment t.last) alone.few;
   }
 
-alone_still : (h : List ℕ) (s t : Held) (m : Message) → IsAlone h s t → IsAlone h (after s m) t
+alone_still : (h : List ℕ) (s t : State) (m : Message) → IsAlone h s t → IsAlone h (after s m) t
 alone_still h s t m k = record { areas = k.areas; few = more (length t.last) (length s.last) (length (last_after m.holder m.moment s.last)) k.few (grows (is_none (moment_of m.holder s.last)) (length (last_after m.holder m.moment s.last)) (length s.last) (last_length m.holder m.moment s.last)) }
   where
     more : (i j k : ℕ) → i ≤ j → j ≤ k → i ≤ k
@@ -178,12 +177,12 @@ alone_still h s t m k = record { areas = k.areas; few = more (length t.last) (le
 
 -- ---- all messages
 -- t stands beside s, with h alone
-pub record IsBeside (h : List ℕ) (s t : Held) : Type 0 where
+pub record IsBeside (h : List ℕ) (s t : State) : Type 0 where
   pub agree : AgreeOn h s t
   pub alone : IsAlone h s t
 
 module _ (limits : Limits) (h : List ℕ) where
-  own_step : (s t : Held) (m : Message) → AreAtHome h s → IsBeside h s t → IsLocal h m → is_message_of h m ≡ true → Takes limits s m → Takes limits t m × IsBeside h (after s m) (after t m)
+  own_step : (s t : State) (m : Message) → AreAtHome h s → IsBeside h s t → IsLocal h m → is_message_of h m ≡ true → Takes limits s m → Takes limits t m × IsBeside h (after s m) (after t m)
   own_step s t m home b l o j =
       let q : m.holder ≡ h = (bytes_eq-Decides m.holder h).0 o in
       let agree : AgreeOn m.holder s t = subst (λ (i : List ℕ). AgreeOn i s t) (sym q) b.agree in
@@ -201,13 +200,13 @@ module _ (limits : Limits) (h : List ℕ) where
     own = own_step;
   }
 
-  pub alone_replayed : (ms : List Message) (s t : Held) → AreAtHome h s → IsBeside h s t → IsReplay limits s ms → All (IsLocal h) ms → IsReplay limits t (own_messages h ms) × IsBeside h (replayed s ms) (replayed t (own_messages h ms))
+  pub alone_replayed : (ms : List Message) (s t : State) → AreAtHome h s → IsBeside h s t → IsReplay limits s ms → All (IsLocal h) ms → IsReplay limits t (own_messages h ms) × IsBeside h (replayed s ms) (replayed t (own_messages h ms))
   alone_replayed ms s t home b r l = taken_along (Takes limits) after (IsBeside h) (AreAtHome h) (IsLocal h) (is_message_of h) keeps ms s t home b r l
 
 -- ---- opened
-pub own_enough : (limits : Limits) (h : List ℕ) (ms : List Message) → IsReplay limits nothing ms → All (IsLocal h) ms → IsReplay limits nothing (own_messages h ms) × AgreeOn h (replayed nothing ms) (replayed nothing (own_messages h ms))
+pub own_enough : (limits : Limits) (h : List ℕ) (ms : List Message) → IsReplay limits opening ms → All (IsLocal h) ms → IsReplay limits opening (own_messages h ms) × AgreeOn h (replayed opening ms) (replayed opening (own_messages h ms))
 own_enough limits h ms r l =
-    let k = alone_replayed limits h ms nothing nothing (All-nil (IsAtHome h)) (record { agree = agree_itself h nothing; alone = record { areas = All-nil (λ (a : AreaVersion). is_area_version h a ≡ true); few = omega arith } }) r l in
+    let k = alone_replayed limits h ms opening opening (All-nil (IsAtHome h)) (record { agree = agree_itself h opening; alone = record { areas = All-nil (λ (a : AreaVersion). is_area_version h a ≡ true); few = omega arith } }) r l in
     (k.0, k.1.agree)
 
 all_local : (h : List ℕ) (from : ℕ) (ms : List Message) → position_from (is_foreign h) from ms ≡ None → All (IsLocal h) ms
@@ -217,14 +216,14 @@ all_local h from (m ∷ ms) e = elim (cases_Bool (is_foreign h m)) [
   | inr t ↦ All-cons (IsLocal h) m ms t (all_local h (from + 1) ms (sym (ap (λ (b : Bool). cond b (Some from) (position_from (is_foreign h) (from + 1) ms)) t) ∙ e))
 ]
 
-pub opened : (limits : Limits) (h : List ℕ) (ms : List Message) (s : Held) → IsReplay limits nothing ms → Opens ms h (Ok s) → IsHolderAlone limits ms h s
+pub opened : (limits : Limits) (h : List ℕ) (ms : List Message) (s : State) → IsReplay limits opening ms → Opens ms h (Ok s) → IsHolderAlone limits ms h s
 opened limits h ms s r o = let k = own_enough limits h ms r (all_local h 1 ms o.0) in record {
   replay = k.0;
   is = o.1;
-  same = subst (λ (x : Held). LookAlike h (replayed nothing ms) x) (sym o.1) (look_alike h (replayed nothing ms) (replayed nothing (own_messages h ms)) k.1);
+  same = subst (λ (x : State). LookAlike h (replayed opening ms) x) (sym o.1) (look_alike h (replayed opening ms) (replayed opening (own_messages h ms)) k.1);
 }
 
-pub good_replayed : (limits : Limits) (ms : List Message) (s : Held) → Good s → IsReplay limits s ms → Good (replayed s ms)
+pub good_replayed : (limits : Limits) (ms : List Message) (s : State) → Good s → IsReplay limits s ms → Good (replayed s ms)
 unfolding Replays
 good_replayed limits [] s g r = g
-good_replayed limits (m ∷ ms) s g r = good_replayed limits ms (after s m) (step_good s m g (judged_passes limits s m r.0)) r.1
+good_replayed limits (m ∷ ms) s g r = good_replayed limits ms (after s m) (passed_good s m g (judged_passes limits s m r.0)) r.1

@@ -14,19 +14,19 @@ use Rattle.message_text.specs.declared.message.Message.{Message}
 use Rattle.message_text.specs.declared.message.Mutation.{Mutation}
 use Rattle.message_text.specs.declared.message.Mutation.TheVariants.{Add, Change, End}
 use Rattle.version_history.specs.declared.version.Version.{Version}
-use Rattle.map_core.specs.After.{areas_after, begun, touched_by, versions_after}
-use Rattle.map_core.specs.Rules.{MutationsRule, ident_of}
-use Rattle.map_core.proofs.Finding.{neither}
-use Rattle.map_core.proofs.Untouched.{names, touched_by-other}
+use Rattle.map_rules.specs.After.{after, areas_after, begun, touched_by, versions_after}
+use Rattle.map_rules.specs.Rules.{MutationsRule, ident_of}
+use Rattle.map_rules.proofs.Finding.{neither}
+use Rattle.map_rules.proofs.Untouched.{names, touched_by-other}
 use Rattle.area_book.specs.declared.version.AreaVersion.{AreaVersion}
 use Rattle.area_book.specs.Areas.{area_ended, new_area}
-use Rattle.moment_law.specs.Good.{IsFine, IsOwn}
-use Rattle.moment_law.specs.Held.{Held, after}
-use Rattle.moment_law.proofs.Begun.{begun_is, named_by}
-use Rattle.moment_law.proofs.Lists.{all_from, all_mapped, kept-none}
-use Rattle.moment_law.proofs.Ruled.{all_fine}
-use Rattle.map_core.proofs.Dating.{moment_of_others}
-use Rattle.moment_law.proofs.Touching.{touched-holder, touched-ident}
+use Rattle.map_rules.specs.Good.{IsFine, IsOwn}
+use Rattle.map_rules.specs.State.{State}
+use Rattle.map_rules.proofs.Begun.{begun_is, named_by}
+use Rattle.map_rules.proofs.Lists.{all_from, all_mapped, kept-none}
+use Rattle.map_rules.proofs.Ruled.{all_fine}
+use Rattle.map_rules.proofs.Dating.{moment_of_others}
+use Rattle.map_rules.proofs.Touching.{touched-holder, touched-ident}
 use Rattle.alone_law.specs.Agreeing.{AgreeOn, AreAtHome, IsAtHome, IsLocal, begins_one, concerns, is_area_version, names_other}
 use Rattle.alone_law.proofs.Agreeing.{ended-version, touched-concerns}
 use Rattle.alone_law.proofs.Filters.{filter-changed}
@@ -123,10 +123,10 @@ module _ (h holder : List ℕ) (moment : ℤ) (other : h ≢ holder) where
       ∙ ap (λ (b : Bool). filter (is_area_version h) areas ++ cond b (new_area holder moment shapes ∷ []) []) (differs holder h (λ q. other (sym q)))
       ∙ append-nil (filter (is_area_version h) areas)
 
-pub home_after : (h : List ℕ) (s : Held) (m : Message) → AreAtHome h s → IsLocal h m → MutationsRule s.versions m [] m.mutations None → AreAtHome h (after s m)
+pub home_after : (h : List ℕ) (s : State) (m : Message) → AreAtHome h s → IsLocal h m → MutationsRule s.versions m [] m.mutations None → AreAtHome h (after s m)
 home_after h s m home l r = home_then h m.holder m.moment m.mutations s.versions home (coded h s.versions home m l r)
 
-pub others_left : (h : List ℕ) (s : Held) (m : Message) → AreAtHome h s → m.holder ≢ h → IsLocal h m → MutationsRule s.versions m [] m.mutations None → AgreeOn h s (after s m)
+pub others_left : (h : List ℕ) (s : State) (m : Message) → AreAtHome h s → m.holder ≢ h → IsLocal h m → MutationsRule s.versions m [] m.mutations None → AgreeOn h s (after s m)
 others_left h s m home d l r = record {
   versions = sym (versions_left h m.holder m.moment m.mutations s.versions home (coded h s.versions home m l r) (differs m.holder h d));
   areas = sym (areas_left h m.holder m.moment (λ q. d (sym q)) m.area s.areas);

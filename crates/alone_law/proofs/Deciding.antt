@@ -13,16 +13,16 @@ use Rattle.message_text.specs.declared.message.Mutation.{Mutation}
 use Rattle.message_text.specs.declared.message.Mutation.TheVariants.{Add, Change, End}
 use Rattle.version_history.specs.declared.version.Version.{Version}
 use Rattle.version_history.specs.Versions.{current_of, last_of}
-use Rattle.map_core.specs.declared.refusal.Refusal.TheVariants as refusal
-use Rattle.map_core.specs.declared.refusal.FullName.TheVariants.{Objects}
-use Rattle.map_core.specs.Rules.{header_of, MutationsRule, ShapeRule, change_refusal, earlier, end_day_refusal, has_twice, ident_of, item_refusal, kind_refusal, mutation_refusal, not_later}
-use Rattle.map_core.specs.State.{moment_of}
+use Rattle.map_rules.specs.declared.refusal.Refusal.TheVariants as refusal
+use Rattle.map_rules.specs.declared.refusal.FullName.TheVariants.{Objects}
+use Rattle.map_rules.specs.Rules.{header_of, MutationsRule, ShapeRule, change_refusal, earlier, end_day_refusal, has_twice, ident_of, item_refusal, kind_refusal, mutation_refusal, not_later}
+use Rattle.map_rules.specs.State.{State, moment_of}
 use Rattle.area_book.specs.declared.version.AreaVersion.{AreaVersion}
 use Rattle.area_book.specs.Areas.{newest_area}
 use Rattle.local_check.specs.MapRules.{MapRule}
 use Rattle.local_check.specs.Maps.{HolderParts}
-use Rattle.moment_law.specs.Held.{Held, after}
-use Rattle.moment_law.specs.Passing.{AreaPasses, Passes}
+use Rattle.map_rules.specs.After.{after}
+use Rattle.map_rules.specs.Passing.{AreaPasses, Passes}
 use Rattle.alone_law.specs.Agreeing.{AgreeOn, IsLocal}
 use Rattle.alone_law.specs.Judging.{Cause, AreaRule, Judged, LaterRule, MessageRule, Through, full_holders, full_objects, no_holder_more, stale_area}
 use Rattle.alone_law.specs.Judging.Cause.{by_area, by_map, by_rule}
@@ -71,7 +71,7 @@ module _ (m : Message) (xs ys : List Version) (current : (ident : List ℕ) → 
       (mutations_give (before ++ x ∷ []) rest (All-tail (λ y. holder_of (ident_of y) ≡ m.holder) x rest l))))
 
 -- ---- all rules
-module _ (limits : Limits) (s t : Held) (m : Message) (a : AgreeOn m.holder s t) (l : IsLocal m.holder m) where
+module _ (limits : Limits) (s t : State) (m : Message) (a : AgreeOn m.holder s t) (l : IsLocal m.holder m) where
   pub message_gives : stale_area s.areas m ≡ stale_area t.areas m → Gives (MessageRule s m) (MessageRule t m)
   message_gives e = then_gives (is_gives (not_later m.moment (moment_of m.holder s.last)) (not_later m.moment (moment_of m.holder t.last))
       (ap (not_later m.moment) a.last))
@@ -90,7 +90,7 @@ when_or true x = inl refl
 when_or false x = inr refl
 
 -- with the same room for holders, or where that refuses neither
-pub decide_alike : (limits : Limits) (s t : Held) (m : Message) (answer : Option Cause) → AgreeOn m.holder s t → IsLocal m.holder m → m.area ≡ None
+pub decide_alike : (limits : Limits) (s t : State) (m : Message) (answer : Option Cause) → AgreeOn m.holder s t → IsLocal m.holder m → m.area ≡ None
     → answer ≢ Some no_holder_more → (Judged limits t m (Some no_holder_more) → ⊥) → Judged limits s m answer → Judged limits t m answer
 decide_alike limits s t m answer a l none other free j = by answer other j
   where
@@ -126,7 +126,7 @@ decide_alike limits s t m answer a l none other free j = by answer other j
     by (Some c) n (inr (e, inr f)) = let k = early None e in inr (k, inr (room k, later (Some c) f.1))
 
 -- ---- what passes
-pub judged_passes : (limits : Limits) (s : Held) (m : Message) → Judged limits s m None → Passes s m
+pub judged_passes : (limits : Limits) (s : State) (m : Message) → Judged limits s m None → Passes s m
 judged_passes limits s m h = record {
   fresh = sym h.0.0;
   mutations = h.0.1.1;
@@ -139,7 +139,7 @@ judged_passes limits s m h = record {
     block None e r = tt
     block (Some shapes) e r = (sym e, r)
 
-pub passing_judged : (limits : Limits) (s : Held) (m : Message) → Passes s m → full_holders limits s m ≡ None → full_objects limits s m ≡ None
+pub passing_judged : (limits : Limits) (s : State) (m : Message) → Passes s m → full_holders limits s m ≡ None → full_objects limits s m ≡ None
     → Judged limits s m None
 passing_judged limits s m p h o = ((sym p.fresh, (stale m.area p.area, p.mutations)), (sym h, (sym o, (block m.area p.area, p.map))))
   where

@@ -13,13 +13,13 @@ use Rattle.message_text.specs.declared.message.Mutation.{Mutation}
 use Rattle.message_text.specs.declared.message.Mutation.TheVariants.{Add, Change, End}
 use Rattle.version_history.specs.declared.version.Version.{Version}
 use Rattle.version_history.specs.Versions.{has_ident, is_current, is_current_of, new_version}
-use Rattle.map_core.specs.After.{areas_after, last_after, touched_by}
-use Rattle.map_core.specs.Rules.{ident_of}
-use Rattle.map_core.proofs.Untouched.{names, touched_by-other}
-use Rattle.moment_law.specs.Held.{Held}
-use Rattle.moment_law.proofs.Lists.{all_from, all_mapped, kept-none}
-use Rattle.map_core.proofs.Dating.{moment_of_others}
-use Rattle.moment_law.proofs.Touching.{touched-holder, touched-ident}
+use Rattle.map_rules.specs.After.{areas_after, last_after, touched_by}
+use Rattle.map_rules.specs.Rules.{ident_of}
+use Rattle.map_rules.proofs.Untouched.{names, touched_by-other}
+use Rattle.map_rules.specs.State.{State}
+use Rattle.map_rules.proofs.Lists.{all_from, all_mapped, kept-none}
+use Rattle.map_rules.proofs.Dating.{moment_of_others}
+use Rattle.map_rules.proofs.Touching.{touched-holder, touched-ident}
 use Rattle.alone_law.specs.Agreeing.{AgreeOn, AreAtHome, IsAtHome, concerns}
 use Rattle.alone_law.specs.Handing.{Deed, IsOfTwo, Joint, KeepsOff, after_joint, begun_by, kept_holder, mutation_of, other_than}
 use Rattle.alone_law.specs.Handing.Deed.{alone, handover}
@@ -105,7 +105,7 @@ module _ (h own other : List ℕ) (moment : ℤ) (vs : List Version) (home : All
   all_off [] a = λ i d l. absurd (omega (arith, l))
   all_off (d ∷ ds) a = All-append (IsOff h) (begun_by own other moment vs d) (flat_map (begun_by own other moment vs) ds) (begun_off d (All-head (KeepsOff h own other vs) d ds a)) (all_off ds (All-tail (KeepsOff h own other vs) d ds a))
 
-pub joint_left : (h : List ℕ) (s : Held) (j : Joint) → AreAtHome h s → j.own ≢ h → j.other ≢ h → All (KeepsOff h j.own j.other s.versions) j.deeds → AgreeOn h s (after_joint s j) × AreAtHome h (after_joint s j)
+pub joint_left : (h : List ℕ) (s : State) (j : Joint) → AreAtHome h s → j.own ≢ h → j.other ≢ h → All (KeepsOff h j.own j.other s.versions) j.deeds → AgreeOn h s (after_joint s j) × AreAtHome h (after_joint s j)
 joint_left h s j home own other keeps =
     let codes = all_coded h j.own j.other j.moment s.versions home own other j.deeds keeps in
     let off = all_off h j.own j.other j.moment s.versions home own other j.deeds keeps in

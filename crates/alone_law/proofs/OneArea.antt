@@ -11,8 +11,8 @@ use Rattle.area_book.specs.declared.fault.AreaFault.TheVariants as fault
 use Rattle.area_book.specs.declared.version.AreaVersion.{AreaVersion}
 use Rattle.area_book.specs.Rule.{IsFirstHolder, IsFirstPair, IsFirstUnsound}
 use Rattle.alone_law.specs.Judging.{ShapesRule}
-use Rattle.map_core.proofs.OneArea.{keep_of, no_shape, one_first_pair, one_holder, one_shape}
-use Rattle.map_core.proofs.OneDecision.{HasOne}
+use Rattle.map_rules.proofs.OneArea.{keep_of, no_shape, one_first_pair, one_holder, one_shape}
+use Rattle.map_rules.proofs.OneRule.{HasOne}
 
 module _ (one_note : (rings : List (List Vertex)) (note other : ShapeNote) → IsShapeNote rings note → IsShapeNote rings other → note ≡ other)
     (sound_has_none : (rings : List (List Vertex)) (note : ShapeNote) → IsSoundShape rings → ¬ IsShapeNote rings note)

@@ -22,8 +22,8 @@ use Rattle.local_check.specs.declared.fault.MapFault.{MapFault}
 use Rattle.local_check.specs.declared.fault.MapFault.TheVariants as fault
 use Rattle.local_check.specs.Maps.{HolderParts, ground_of}
 use Rattle.local_check.specs.MapRules.{CancelRule, LevelRule, MapRule, NodeRule}
-use Rattle.map_core.proofs.OneArea.{list_equal, neither_less}
-use Rattle.map_core.proofs.OneDecision.{HasOne, one_is, one_then}
+use Rattle.map_rules.proofs.OneArea.{list_equal, neither_less}
+use Rattle.map_rules.proofs.OneRule.{HasOne, one_is, one_then}
 use Rattle.alone_law.specs.Judging.{Through}
 
 pub one_through : {R S : Type 0} (told : R → S) {rule : Rule R} → HasOne rule → HasOne (Through told rule)

@@ -9,10 +9,10 @@ use Rattle.message_text.specs.declared.message.Mutation.{Mutation}
 use Rattle.message_text.specs.declared.message.Mutation.TheVariants.{Add, Change, End}
 use Rattle.version_history.specs.declared.version.Version.{Version}
 use Rattle.version_history.specs.Versions.{current_of, last_of, new_version}
-use Rattle.map_core.specs.declared.refusal.Refusal.{Refusal}
-use Rattle.map_core.specs.After.{begun}
-use Rattle.map_core.specs.Rules.{header_of, MutationsRule, change_refusal, kind_refusal, mutation_refusal}
-use Rattle.moment_law.proofs.Ruled.{when_none}
+use Rattle.map_rules.specs.declared.refusal.Refusal.{Refusal}
+use Rattle.map_rules.specs.After.{begun}
+use Rattle.map_rules.specs.Rules.{header_of, MutationsRule, change_refusal, kind_refusal, mutation_refusal}
+use Rattle.map_rules.proofs.Ruled.{when_none}
 use Rattle.alone_law.specs.Handing.{begun_by, kept_holder}
 use Rattle.alone_law.specs.Handing.Deed.{alone}
 

@@ -12,10 +12,11 @@ use Rattle.message_text.specs.declared.message.Message.{Message}
 use Rattle.message_text.specs.declared.message.Mutation.{Mutation}
 use Rattle.message_text.specs.declared.message.Mutation.TheVariants.{Add, Change, End}
 use Rattle.version_history.specs.declared.version.Version.{Version}
-use Rattle.map_core.specs.Rules.{header_of, MutationsRule, mutation_refusal}
-use Rattle.moment_law.specs.Good.{IsFine}
-use Rattle.moment_law.specs.Held.{Held, after}
-use Rattle.moment_law.proofs.Ruled.{all_fine, when_none}
+use Rattle.map_rules.specs.Rules.{header_of, MutationsRule, mutation_refusal}
+use Rattle.map_rules.specs.Good.{IsFine}
+use Rattle.map_rules.specs.After.{after}
+use Rattle.map_rules.specs.State.{State}
+use Rattle.map_rules.proofs.Ruled.{all_fine, when_none}
 use Rattle.alone_law.specs.Agreeing.{AreAtHome, IsAtHome, IsLocal, begins_one, names_other}
 use Rattle.alone_law.specs.Folding.{Replays}
 use Rattle.alone_law.specs.Replaying.{IsReplay}
@@ -65,7 +66,7 @@ taken_local h vs m home r = elim (cases_Bool (bytes_eq m.holder h)) [
     coded x c = coded_one h vs home m.holder x (All-contains (HasPrefix m.holder) m.mutations x (all_prefix vs m [] m.mutations r) c)
         (All-contains (IsFine vs m.holder) m.mutations x (all_fine vs m [] m.mutations r) c)
 
-pub all_local : (limits : Limits) (h : List ℕ) (ms : List Message) (s : Held) → AreAtHome h s → IsReplay limits s ms → All (IsLocal h) ms
+pub all_local : (limits : Limits) (h : List ℕ) (ms : List Message) (s : State) → AreAtHome h s → IsReplay limits s ms → All (IsLocal h) ms
 unfolding Replays
 all_local limits h [] s home r = All-nil (IsLocal h)
 all_local limits h (m ∷ ms) s home r =

@@ -8,10 +8,9 @@ use Rattle.message_text.specs.declared.message.Message.{Message}
 use Rattle.message_text.specs.declared.message.Mutation.{Mutation}
 use Rattle.message_text.specs.declared.message.Mutation.TheVariants.{Add, Change, End}
 use Rattle.version_history.specs.declared.version.Version.{Version}
-use Rattle.map_core.specs.Rules.{ident_of}
-use Rattle.map_core.specs.State.{moment_of}
+use Rattle.map_rules.specs.Rules.{ident_of}
+use Rattle.map_rules.specs.State.{State, moment_of}
 use Rattle.area_book.specs.declared.version.AreaVersion.{AreaVersion}
-use Rattle.moment_law.specs.Held.{Held}
 
 -- the version is the holder's, or of an identification with the holder's code
 abbrev pub concerns : List ℕ → Version → Bool
@@ -22,7 +21,7 @@ abbrev pub is_area_version : List ℕ → AreaVersion → Bool
 is_area_version holder a = bytes_eq a.holder holder
 
 -- the same versions of the holder and of its identifications, current and ended, the same versions of its area, the same last moment
-pub record AgreeOn (holder : List ℕ) (s t : Held) : Type 0 where
+pub record AgreeOn (holder : List ℕ) (s t : State) : Type 0 where
   pub versions : filter (concerns holder) s.versions ≡ filter (concerns holder) t.versions
   pub areas : filter (is_area_version holder) s.areas ≡ filter (is_area_version holder) t.areas
   pub last : moment_of holder s.last ≡ moment_of holder t.last
@@ -32,7 +31,7 @@ abbrev pub IsAtHome : List ℕ → Version → Type 0
 IsAtHome holder v = bytes_eq (holder_of v.ident) holder ≡ bytes_eq v.holder holder
 
 -- so it is with all versions of the state
-abbrev pub AreAtHome : List ℕ → Held → Type 0
+abbrev pub AreAtHome : List ℕ → State → Type 0
 AreAtHome holder s = All (IsAtHome holder) s.versions
 
 -- ---- messages

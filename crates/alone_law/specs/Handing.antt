@@ -1,5 +1,5 @@
 -- What a message of two holders leaves: it may change both areas, and hand objects over.
-use Rattle.std.specs.Prelude.{◌≡◌, ◌⊎◌, ℕ, ℤ, List, [], ◌∷◌, ◌++◌, map, Option, Some, option_map, unwrap_or}
+use Rattle.std.specs.Prelude.{◌+◌, ◌≡◌, ◌⊎◌, ℕ, ℤ, List, [], ◌∷◌, ◌++◌, map, Option, Some, option_map, unwrap_or}
 use Rattle.std.specs.Bool.{if◌then◌else◌}
 use Rattle.std.specs.List.{flat_map}
 use Rattle.std.specs.Str.{bytes_eq}
@@ -10,8 +10,8 @@ use Rattle.message_text.specs.declared.message.Mutation.{Mutation}
 use Rattle.message_text.specs.declared.message.Mutation.TheVariants.{Add, Change, End}
 use Rattle.version_history.specs.declared.version.Version.{Version}
 use Rattle.version_history.specs.Versions.{current_of, new_version}
-use Rattle.map_core.specs.After.{areas_after, last_after, touched_by}
-use Rattle.moment_law.specs.Held.{Held}
+use Rattle.map_rules.specs.After.{areas_after, last_after, touched_by}
+use Rattle.map_rules.specs.State.{State}
 
 -- a mutation, or an object that goes over to the other holder
 pub data Deed : Type 0 where
@@ -48,11 +48,12 @@ begun_by own other moment versions (alone (End ident was day)) = []
 begun_by own other moment versions (handover ident was item) = new_version (other_than own other (kept_holder own ident versions)) ident item moment ∷ []
 
 -- the state that a message of two holders leaves
-abbrev pub after_joint : Held → Joint → Held
+abbrev pub after_joint : State → Joint → State
 after_joint s j = record {
   versions = map (touched_by j.moment (map mutation_of j.deeds)) s.versions ++ flat_map (begun_by j.own j.other j.moment s.versions) j.deeds;
   areas = areas_after j.other j.moment j.other_area (areas_after j.own j.moment j.area s.areas);
   last = last_after j.other j.moment (last_after j.own j.moment s.last);
+  accepted = s.accepted + 1;
 }
 
 -- the current version of the identification is one of the two holders'

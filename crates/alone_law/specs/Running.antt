@@ -4,9 +4,10 @@ use Rattle.std.specs.List.{All}
 use Rattle.std.specs.Str.{bytes_eq}
 use Rattle.message_text.specs.declared.limits.Limits.{Limits}
 use Rattle.message_text.specs.declared.message.Message.{Message}
-use Rattle.map_core.specs.declared.refusal.Refusal.{Refusal}
-use Rattle.map_core.specs.Runs.{IsRead, IsUnread}
-use Rattle.moment_law.specs.Held.{Held, after}
+use Rattle.map_rules.specs.declared.refusal.Refusal.{Refusal}
+use Rattle.map_rules.specs.Runs.{IsRead, IsUnread}
+use Rattle.map_rules.specs.After.{after}
+use Rattle.map_rules.specs.State.{State}
 use Rattle.alone_law.specs.Agreeing.{IsLocal}
 use Rattle.alone_law.specs.Folding.{Runs, Told, entry_of, own_of}
 use Rattle.alone_law.specs.Judging.{Cause, Judged, no_holder_more}
@@ -16,7 +17,7 @@ abbrev pub Event : Type 0
 Event = Told Message (Option Cause)
 
 -- from s, the register answers the message so and goes on to t
-abbrev pub Moves : Limits → Held → Message → Option Cause → Held → Type 0
+abbrev pub Moves : Limits → State → Message → Option Cause → State → Type 0
 Moves limits s m None t = Judged limits s m None × (t ≡ after s m)
 Moves limits s m (Some cause) t = Judged limits s m (Some cause) × (t ≡ s)
 
@@ -28,7 +29,7 @@ AreMessagesOf limits (text ∷ texts) ms =
     ((m : Message) × (rest : List Message) × IsRead limits text m × AreMessagesOf limits texts rest × (ms ≡ m ∷ rest))
 
 -- from s, the register reads and answers the texts: one that cannot be read leaves it as it is
-pub record RunsTexts (limits : Limits) (s : Held) (texts : List (List ℕ)) (es : List Event) (t : Held) : Type 0 where
+pub record RunsTexts (limits : Limits) (s : State) (texts : List (List ℕ)) (es : List Event) (t : State) : Type 0 where
   pub read : AreMessagesOf limits texts (map entry_of es)
   pub answered : Runs (Moves limits) s es t
 

@@ -17,7 +17,7 @@ use Rattle.message_text.specs.Printable.{IsPrintable, IsPrintableShape}
 use Rattle.rd_plane.specs.Rule.{when}
 use Rattle.message_text.specs.Reading.{Reads, area_shapes, judged, passed_limit, points_of, arc_line}
 use Rattle.message_text.specs.Texts.{rings_of}
-use Rattle.map_core.specs.Counted.{IsCounted}
+use Rattle.map_rules.specs.Counted.{IsCounted}
 
 abbrev has_many_rings : Limits → Mutation → Bool
 has_many_rings limits mutation = nat_lt limits.shape_rings (length (rings_of mutation))

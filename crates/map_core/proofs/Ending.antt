@@ -1,9 +1,12 @@
 -- A reply line has one line feed, its last byte.
-use Rattle.std.proofs.Common.{◌≡◌, ◌<◌, ◌+◌, ◌/◌, ◌%◌, ◌++◌, ◌==◌, ℕ, ℤ, zero, suc, Bool, true, false, List, [], ◌∷◌, refl, sym, subst, arith, nat_lt, append_assoc}
+use Rattle.std.proofs.Common.{◌≡◌, ◌<◌, ◌+◌, ◌/◌, ◌%◌, ◌++◌, ◌==◌, ℕ, ℤ, zero, suc, Bool, true, false, List, [], ◌∷◌, refl, sym, subst, arith, nat_lt, append_assoc, take, drop, get_or, ap, ◌∙◌}
 use Rattle.std.specs.Prelude.{Some, None, codes, unsigned_abs}
 use Rattle.std.specs.Bool.{if◌then◌else◌}
 use Rattle.std.specs.List.{All, list_all}
+use Rattle.std.specs.Char.{IsAsciiAlphanumeric}
 use Rattle.std.specs.Fmt.{decimal, digits, digits_onto, digit_glyph}
+use Rattle.std.proofs.lemmas.Grind.{common_steps}
+use Rattle.std.proofs.lemmas.List.{take-append-drop, drop_more}
 use Rattle.std.proofs.lemmas.Bool.{ltb-true}
 use Rattle.std.proofs.lemmas.List.Elements.{All-append}
 use Rattle.std.proofs.lemmas.List.Sums.{AllPass-from_list_all}
@@ -11,7 +14,7 @@ use Rattle.rd_plane.specs.Plane.{Vertex, Segment}
 use Rattle.field_text.specs.Forms.{IsFieldByte, padded}
 use Rattle.field_text.specs.Coordinates.{IsPrintedMm, sign}
 use Rattle.field_text.proofs.Solid.{solid_moment}
-use Rattle.imgeo_types.specs.Fields.{IsHolder}
+use Rattle.imgeo_types.specs.Fields.{IsHolder, IsIdent}
 use Rattle.imgeo_types.specs.declared.fault.ItemFault.{ItemFault}
 use Rattle.imgeo_types.specs.declared.fault.ItemFault.TheVariants.{Level, Code, Missing, PandNumber}
 use Rattle.imgeo_types.specs.declared.kind.Attr.{Attr}
@@ -24,14 +27,14 @@ use Rattle.part_shape.specs.declared.fault.ShapeNote.{ShapeNote}
 use Rattle.part_shape.specs.declared.fault.ShapeNote.TheVariants as shape_note
 use Rattle.message_text.specs.declared.fault.LimitName.{LimitName}
 use Rattle.message_text.specs.declared.fault.LimitName.TheVariants as limit
-use Rattle.map_core.specs.declared.refusal.Refusal.{Refusal}
-use Rattle.map_core.specs.declared.refusal.Refusal.TheVariants as refusal
-use Rattle.map_core.specs.declared.refusal.AreaNote.{AreaNote}
-use Rattle.map_core.specs.declared.refusal.AreaNote.TheVariants as area_note
-use Rattle.map_core.specs.declared.refusal.FullName.{FullName}
-use Rattle.map_core.specs.declared.refusal.FullName.TheVariants.{Holders, Objects}
-use Rattle.map_core.specs.declared.refusal.Answer.{Answer}
-use Rattle.map_core.specs.declared.refusal.Answer.TheVariants.{Taken, Refused}
+use Rattle.map_rules.specs.declared.refusal.Refusal.{Refusal}
+use Rattle.map_rules.specs.declared.refusal.Refusal.TheVariants as refusal
+use Rattle.map_rules.specs.declared.refusal.AreaNote.{AreaNote}
+use Rattle.map_rules.specs.declared.refusal.AreaNote.TheVariants as area_note
+use Rattle.map_rules.specs.declared.refusal.FullName.{FullName}
+use Rattle.map_rules.specs.declared.refusal.FullName.TheVariants.{Holders, Objects}
+use Rattle.map_rules.specs.declared.refusal.Answer.{Answer}
+use Rattle.map_rules.specs.declared.refusal.Answer.TheVariants.{Taken, Refused}
 use Rattle.map_core.specs.Replies.{IsInLine, HasOneEnd, IsOwned, IsOwnedAnswer, numbered, numbered_pair, limit_word, full_word, item_word, ring_words, shape_words, area_words, WithMoment, IsPointText, IsEdgeText, IsRefusalText, IsAnswerText}
 
 Line : List ℕ → Type 0
@@ -141,6 +144,18 @@ holder : (h : List ℕ) → IsHolder h → All IsInLine h
 holder [] h = nothing
 holder (b ∷ bs) h = mark b bs (omega (arith, h.letter)) (λ k d lt. let digit = h.digits k d lt in omega (arith, digit))
 
+-- a holder, a full stop, letters and digits
+letters : (f : List ℕ) → All IsAsciiAlphanumeric f → All IsInLine f
+letters f h = λ k d lt. grind (arith, common_steps, h k d lt)
+
+ident : (f : List ℕ) → IsIdent f → All IsInLine f
+ident f h =
+    let long = h.len in
+    let spelled : f ≡ take 5 f ++ (get_or f 5 0 ∷ drop 6 f) = sym (take-append-drop 5 f) ∙ ap (λ (x : List ℕ). take 5 f ++ x) (drop_more f 5 0 (omega arith)) in
+    let stop = h.stop in
+    subst (λ (x : List ℕ). All IsInLine x) (sym spelled)
+    (behind (take 5 f) (get_or f 5 0 ∷ drop 6 f) (holder _ h.holder) (mark _ _ (omega (arith, stop)) (letters _ h.behind)))
+
 area : (n : AreaNote) → IsOwned (refusal.Area n) → All IsInLine (area_words n)
 area (area_note.Shape at n) o = and_word (numbered (codes "shape ") at) (shape_words n) (words_number (codes "shape ") at (literal (codes "shape ") refl)) (shape n)
 area (area_note.Own a b) o = words_pair (codes "own ") a b (literal (codes "own ") refl)
@@ -169,6 +184,10 @@ refused (refusal.Days at) text o h = is_text text _ h (words_number (codes "E14 
 refused (refusal.Shape at what) text o h = is_text text _ h (and_word (numbered (codes "E15 SHAPE ") at) (shape_words what) (words_number (codes "E15 SHAPE ") at (literal (codes "E15 SHAPE ") refl)) (shape what))
 refused (refusal.Full which) text o h = is_text text _ h (behind (codes "E16 FULL ") (full_word which) (literal (codes "E16 FULL ") refl) (fulls which))
 refused (refusal.Area what) text o h = is_text text _ h (behind (codes "E17 AREA ") (area_words what) (literal (codes "E17 AREA ") refl) (area what o))
+refused (refusal.Levels a b) text o h = is_text text _ h (behind (codes "E18 LEVELS ") (a ++ 32 ∷ b) (literal (codes "E18 LEVELS ") refl)
+    (and_word a b (ident a o.0) (ident b o.1)))
+refused (refusal.Node v e) text o (at, ends, is_at, is, t) = is_text text _ t (behind (codes "E19 NODE ") (at ++ 32 ∷ ends) (literal (codes "E19 NODE ") refl)
+    (and_word at ends (point at v is_at) (edge ends e is)))
 refused (refusal.Tiled e) text o (ends, is, t) = is_text text _ t (behind (codes "E20 TILED ") ends (literal (codes "E20 TILED ") refl) (edge ends e is))
 
 answered : (answer : Answer) (text : List ℕ) → IsOwnedAnswer answer → IsAnswerText text answer → All IsInLine text

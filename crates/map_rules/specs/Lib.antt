@@ -1,0 +1,13 @@
+pub mod State
+pub mod After
+pub mod Counted
+pub mod Dated
+pub mod Sound
+pub mod Rules
+pub mod Steps
+pub mod SoundVersions
+pub mod Runs
+pub mod Changes
+pub mod Good
+pub mod Passing
+pub mod Tiled
