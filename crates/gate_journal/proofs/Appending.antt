@@ -1,6 +1,6 @@
 -- The two synced writes of an append, and the moments of both.
-use Rattle.std.proofs.Common.{◌≡◌, ℕ, ◌+◌, ◌^◌, ◌<◌, List, [], ◌∷◌, ◌++◌, length, Option, Some, None, refl, subst, sym, ◌∙◌, ap}
-use Rattle.std.specs.Prelude.{IfSome, option_map}
+use Rattle.std.proofs.Common.{◌≡◌, ℕ, ◌+◌, ◌^◌, ◌<◌, List, [], ◌∷◌, ◌++◌, length, sym, ◌∙◌, ap}
+use Rattle.std.specs.Prelude.{option_map}
 use Rattle.outside.specs.Crash.{At, LeavesOnly, IsTornFrom, IsDurable}
 use Rattle.outside.specs.Outside.{Shown, written}
 use Rattle.outside.proofs.Moments.{run_on, weaker}

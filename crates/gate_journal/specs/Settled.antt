@@ -1,10 +1,10 @@
 -- A journal that may be written to, and what a crash leaves of it.
-use Rattle.std.specs.Prelude.{◌≡◌, ◌≢◌, ◌⊎◌, ◌<◌, ◌≤◌, ◌+◌, ℕ, nat_le, List, [], ◌∷◌, ◌++◌, length, Option, Some, IfSome}
+use Rattle.std.specs.Prelude.{◌≡◌, ◌⊎◌, ℕ, nat_le, List, [], ◌∷◌, ◌++◌, length, Option, Some, IfSome}
 use Rattle.std.specs.Bool.{if◌then◌else◌}
 use Rattle.outside.specs.Crash.{IsDurable}
 use Rattle.gate_journal.specs.declared.mode.Mode.{Mode}
 use Rattle.gate_journal.specs.declared.mode.Mode.TheVariants.{Reading, Writing}
-use Rattle.gate_journal.specs.Journal.{mark, records, StandsFor}
+use Rattle.gate_journal.specs.Journal.{mark, StandsFor}
 use Rattle.gate_journal.specs.Reading.{EndsAt}
 
 -- the file has these payloads and its first closed gate at this offset, and all of it is on the disk

@@ -168,6 +168,7 @@ impl Journal {
         ensures disk { OnOk result ((O.shown outside.new).disk ≡ option_map (begun_file for_.Writing) (O.shown outside.old).disk) }
         ensures durable { OnOk result (IsDurable (O.shown outside.new).disk (O.leaves outside.new)) }
         ensures not_journal { IsErrOf result JournalFault.NotJournal → ForSome (O.shown outside.old).disk IsNoJournal × (O.shown outside.new ≡ O.shown outside.old) }
+        ensures long { ForSome (O.shown outside.old).disk (λ file. 9 < length file → O.shown outside.new ≡ O.shown outside.old) }
         ensures disk_fault { IsErrOf result JournalFault.DiskFault → Rose (O.faults outside.old).disks (O.faults outside.new).disks }
         ensures nothing_else { IfErr result (λ e. (e ≡ JournalFault.NotJournal) ⊎ (e ≡ JournalFault.DiskFault)) }
         ensures kept { O.shown outside.new ≡ record (O.shown outside.old) { disk = (O.shown outside.new).disk } }
@@ -194,7 +195,8 @@ impl Journal {
 
     /// Begins a journal at its first gate. For writing it makes a new one of a file of at most nine bytes.
     ///
-    /// NotJournal: the file has more than nine bytes, and its first eight are not the mark; it is as before.
+    /// NotJournal: the file has more than nine bytes, and its first eight are not the mark.
+    /// A file of more than nine bytes is as before, whatever the answer, and so is any file for reading.
     pub fn begin<O: Outside>(mode: Mode, outside: &mut O) -> Result<Journal, JournalFault>
         ensures begun { IfOk result (λ j. (j.mode ≡ mode) × (j.gate ≡ 8) × (j.len < 2 ^ 64) × (mode ≡ for_.Writing → j.empty ≡ Bool.false)) }
         ensures read { IfOk result (λ j. ForSome (O.shown outside.new).disk (λ file. IsRead j file [])) }
@@ -206,11 +208,15 @@ impl Journal {
         ensures moments { (payloads : List (List ℕ)) → AllStandFor (O.leaves outside.old) payloads
             → LeavesOnly O.clock O.left outside.old outside.new (At (O.shown outside.old).told (λ image. StandsFor image payloads)) }
 
+        // What is as before, whatever the answer.
+        ensures long { ForSome (O.shown outside.old).disk (λ file. 9 < length file → O.shown outside.new ≡ O.shown outside.old) }
+        ensures reading { mode ≡ for_.Reading → (O.shown outside.new ≡ O.shown outside.old) × NoneNew (O.leaves outside.old) (O.leaves outside.new) }
+        ensures kept { O.shown outside.new ≡ record (O.shown outside.old) { disk = (O.shown outside.new).disk } }
+
         // Whence each fault.
         ensures not_journal { IsErrOf result JournalFault.NotJournal → ForSome (O.shown outside.old).disk IsNoJournal × (O.shown outside.new ≡ O.shown outside.old) }
         ensures disk_fault { IsErrOf result JournalFault.DiskFault → Rose (O.faults outside.old).disks (O.faults outside.new).disks }
         ensures nothing_else { IfErr result (λ e. (e ≡ JournalFault.NotJournal) ⊎ (e ≡ JournalFault.DiskFault)) }
-        ensures kept { O.shown outside.new ≡ record (O.shown outside.old) { disk = (O.shown outside.new).disk } }
         ensures counts { NoneFell (O.faults outside.old) (O.faults outside.new) }
     {
         match mode {

@@ -1,21 +1,19 @@
 -- What a store keeps once a message was appended, and at each moment of it.
-use Rattle.std.proofs.Common.{◌≡◌, ◌⊎◌, inl, inr, List, [], ◌∷◌, ◌++◌, ℕ, Option, Some, None, Bool, refl, sym, ap, ◌∙◌, subst}
-use Rattle.std.proofs.lemmas.Option.{same_Some}
+use Rattle.std.proofs.Common.{◌≡◌, inl, List, [], ◌∷◌, ◌++◌, ℕ, Option, Some, None, Bool, refl, sym, subst}
 use Rattle.std.specs.Prelude.{IfSome, Ok}
 use Rattle.message_text.specs.Reading.{Reads}
 use Rattle.message_text.specs.Texts.{IsCanonical}
-use Rattle.map_core.specs.Steps.{Decision}
+use Rattle.map_rules.specs.Steps.{Decision}
 use Rattle.outside.specs.Crash.{At, LeavesOnly}
 use Rattle.outside.specs.Outside.{Shown}
 use Rattle.outside.proofs.Moments.{started, weaker}
 use Rattle.message_text.specs.declared.limits.Limits.{Limits}
 use Rattle.message_text.specs.declared.message.Message.{Message}
-use Rattle.map_core.specs.State.{State, opening}
-use Rattle.map_core.specs.After.{after}
-use Rattle.gate_journal.specs.Journal.{StandsFor}
+use Rattle.map_rules.specs.State.{State, opening}
+use Rattle.map_rules.specs.After.{after}
 use Rattle.gate_journal.specs.Settled.{IsSettled, IsSettledIfTold, IsBeforeOrAfter}
 use Rattle.gate_journal.proofs.Crash.{at_entry, still_some}
-use Rattle.map_store.specs.Stands.{Holds, IsNextRecord, Stands}
+use Rattle.map_store.specs.Stands.{Holds, IsNextRecord}
 use Rattle.map_store.specs.Store.{StoreView, IsKept, IsAtWork, IsBeforeOrWith}
 use Rattle.map_store.proofs.Holding.{holds-push, stands_before_or_with}
 

@@ -5,10 +5,10 @@ use Rattle.message_text.specs.declared.limits.Limits.{Limits}
 use Rattle.message_text.specs.declared.message.Message.{Message}
 use Rattle.message_text.specs.declared.fault.TextFault.{TextFault}
 use Rattle.message_text.specs.Reading.{Reads}
-use Rattle.map_core.specs.State.{State, opening}
-use Rattle.map_core.specs.After.{after}
+use Rattle.map_rules.specs.State.{State, opening}
+use Rattle.map_rules.specs.After.{after}
 use Rattle.gate_journal.proofs.One.{one_list_for}
-use Rattle.map_store.specs.Stands.{Holds, IsNextRecord, Stands}
+use Rattle.map_store.specs.Stands.{Holds, Stands}
 
 abbrev pub of_ok : {T E : Type 0} → T → Result T E → T
 of_ok d (Ok x) = x

@@ -1,15 +1,14 @@
 -- Which messages a file stands for, and what makes one damaged.
-use Rattle.std.specs.Prelude.{◌≡◌, ◌⊎◌, ◌<◌, ◌+◌, ◌≢◌, ℕ, List, [], ◌∷◌, ◌++◌, length, Some, Ok, Err}
+use Rattle.std.specs.Prelude.{◌≡◌, ◌⊎◌, ℕ, List, [], ◌∷◌, Some, Ok, Err}
 use Rattle.message_text.specs.declared.limits.Limits.{Limits}
 use Rattle.message_text.specs.declared.message.Message.{Message}
 use Rattle.message_text.specs.declared.fault.TextFault.{TextFault}
 use Rattle.message_text.specs.Reading.{Reads}
 use Rattle.message_text.specs.Texts.{IsCanonical}
-use Rattle.map_core.specs.declared.refusal.Refusal.{Refusal}
-use Rattle.map_core.specs.declared.refusal.Answer.TheVariants.{Taken}
-use Rattle.map_core.specs.State.{State, opening}
-use Rattle.map_core.specs.After.{after}
-use Rattle.map_core.specs.Steps.{Decision, Step}
+use Rattle.map_rules.specs.declared.refusal.Refusal.{Refusal}
+use Rattle.map_rules.specs.declared.refusal.Answer.TheVariants.{Taken}
+use Rattle.map_rules.specs.State.{State, opening}
+use Rattle.map_rules.specs.Steps.{Decision, Step}
 use Rattle.gate_journal.specs.Journal.{StandsFor}
 use Rattle.gate_journal.specs.Reading.{HasRecordAt, IsBehind, IsDamagedAt}
 
@@ -31,6 +30,10 @@ pub record Stands (limits : Limits) (file : List ℕ) (messages : List Message) 
   pub payloads : List (List ℕ)
   pub gates : StandsFor file payloads
   pub holds : Holds limits opening payloads messages state
+
+-- the file stands for no list of messages
+abbrev pub StandsForNone : Limits → (file : List ℕ) → Type 0
+StandsForNone limits file = (messages : List Message) (state : State) → ¬ Stands limits file messages state
 
 -- the payload is no text of the grammar within the limits, or not the canonical text of its message, or the register refuses that
 abbrev pub IsBad : Limits → State → (payload : List ℕ) → Type 0

@@ -5,7 +5,7 @@ ghost use Rattle.std.specs.Bool.{OnFalse, if◌then◌else◌};
 ghost use Rattle.std.specs.Option.{ForSome};
 ghost use Rattle.message_text.specs.declared.message.Message.{Message};
 ghost use Rattle.message_text.specs.Limits.{IsValid};
-ghost use Rattle.map_core.specs.State.{opening};
+ghost use Rattle.map_rules.specs.State.{opening};
 ghost use Rattle.map_core.specs.Tried.{at_rest};
 ghost use Rattle.outside.specs.Crash.{At, LeavesOnly, NoneNew};
 ghost use Rattle.outside.specs.Outside.{NoneFell, Rose};

@@ -1,12 +1,10 @@
-use Rattle.std.proofs.Common.{◌≡◌, ◌<◌, ◌++◌, ◌∷◌, [], List, ℕ, Bool, sym, ap, ◌∙◌, subst, arith, Option, Some, None, refl}
+use Rattle.std.proofs.Common.{◌≡◌, ◌++◌, ◌∷◌, [], List, ℕ, sym, ap, ◌∙◌, subst, arith, Option, Some, None}
 use Rattle.std.specs.Prelude.{Err}
 use Rattle.outside.specs.Outside.{Shown}
-use Rattle.map_core.specs.State.{State, opening}
-use Rattle.gate_journal.specs.declared.fault.JournalFault.TheVariants as journal_fault
-use Rattle.gate_journal.specs.Reading.{Begun, IsRead, ReadsOn, HasRecordAt, Hands, Moves}
+use Rattle.map_rules.specs.State.{opening}
+use Rattle.gate_journal.specs.Reading.{Begun, ReadsOn, HasRecordAt, Hands, Moves}
 use Rattle.map_store.specs.declared.records.RecordFault.{RecordFault}
 use Rattle.map_store.specs.declared.fault.StartFault.TheVariants as fault
-use Rattle.map_store.specs.Reading.{IsReadInto, EndsWith}
 use Rattle.map_store.specs.Stands.{IsNextRecord, IsBad, IsSpoiltAt}
 use Rattle.map_store.proofs.Holding.{holds-push}
 use Rattle.map_store.proofs.Spoilt.{spoilt_gate, spoilt_record, same_err, same_place}

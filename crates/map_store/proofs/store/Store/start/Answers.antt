@@ -1,22 +1,19 @@
-use Rattle.std.proofs.Common.{⊎_elim, ◌≡◌, ◌++◌, ◌∷◌, [], List, ℕ, Bool, sym, ap, ◌∙◌, subst, refl, Option, Some, None}
-use Rattle.std.specs.Prelude.{Err, IfSome, option_map}
-use Rattle.outside.specs.Crash.{At, LeavesOnly}
+use Rattle.std.proofs.Common.{⊎_elim, ◌≡◌, [], List, ℕ, sym, ap, ◌∙◌, subst, Option}
+use Rattle.std.specs.Prelude.{Err, option_map}
+use Rattle.outside.specs.Crash.{At}
 use Rattle.outside.specs.Outside.{Shown}
 use Rattle.outside.proofs.Moments.{run_on}
-use Rattle.message_text.specs.declared.message.Message.{Message}
-use Rattle.map_core.specs.State.{State, opening}
+use Rattle.map_rules.specs.State.{opening}
 use Rattle.map_core.specs.Tried.{CoreView}
 use Rattle.gate_journal.specs.declared.fault.JournalFault.{JournalFault}
 use Rattle.gate_journal.specs.declared.fault.JournalFault.TheVariants as journal
 use Rattle.gate_journal.specs.Journal.{StandsFor}
 use Rattle.gate_journal.specs.Settled.{begun_file}
 use Rattle.map_store.specs.declared.fault.StartFault.TheVariants as fault
-use Rattle.map_store.specs.Reading.{EndsWith, IsReadInto}
-use Rattle.map_store.specs.Stands.{Holds, IsSpoiltAt}
-use Rattle.map_store.specs.Store.{StoreView, IsKept}
+use Rattle.map_store.specs.Stands.{Holds}
 use Rattle.map_store.proofs.Holding.{holds-none}
 use Rattle.map_store.proofs.Spoilt.{same_err}
-use Rattle.map_store.proofs.Starting.{spoilt_same, spoilt_disk, for_told, started_state, started_kept, still_durable}
+use Rattle.map_store.proofs.Starting.{spoilt_disk, for_told, started_state, started_kept, still_durable}
 use Rattle.map_store.proofs.store.Store.start.Goals as goal
 
 pub returns-in-Err-clause-not_journal : goal.returns-in-Err-clause-not_journal
@@ -27,7 +24,7 @@ take_records-requires-clause-read g c = λ file is. record {
   payloads = [];
   messages = [];
   read = c.in-Ok.ensures.read file is;
-  holds = subst (λ (v : CoreView). Holds c.args.limits.now opening [] [] v.state) (sym c.new-core.ensures) (holds-none c.args.limits.now opening);
+  holds = subst (λ (v : CoreView). Holds c.args.limits.now opening [] [] v.state) (sym c.new-core.ensures.value) (holds-none c.args.limits.now opening);
 }
 
 pub returns-in-Ok-take_records-clause-images : goal.returns-in-Ok-take_records-clause-images
@@ -89,3 +86,19 @@ returns-in-Err-clause-no_memory g c = λ e.
 
     not_disk : (f : JournalFault) → f ≡ journal.NoMemory → f ≡ journal.DiskFault → ⊥
     not_disk f a b = cc
+
+pub returns-in-Ok-take_records-clause-long : goal.returns-in-Ok-take_records-clause-long
+returns-in-Ok-take_records-clause-long g c = λ file is long. c.take_records.ensures.same ∙ c.in-Ok.ensures.long file is long
+
+pub returns-in-Err-take_records-clause-long : goal.returns-in-Err-take_records-clause-long
+returns-in-Err-take_records-clause-long g c = λ file is long. c.take_records.ensures.same ∙ c.in-Ok.ensures.long file is long
+
+pub returns-in-Ok-take_records-clause-reading : goal.returns-in-Ok-take_records-clause-reading
+returns-in-Ok-take_records-clause-reading g c = λ reading.
+    let begun = c.in-Ok.ensures.reading reading in
+    (c.take_records.ensures.same ∙ begun.0, λ image now. begun.1 image (c.take_records.ensures.images image now))
+
+pub returns-in-Err-take_records-clause-reading : goal.returns-in-Err-take_records-clause-reading
+returns-in-Err-take_records-clause-reading g c = λ reading.
+    let begun = c.in-Ok.ensures.reading reading in
+    (c.take_records.ensures.same ∙ begun.0, λ image now. begun.1 image (c.take_records.ensures.images image now))
