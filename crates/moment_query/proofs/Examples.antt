@@ -8,7 +8,7 @@ use Rattle.message_text.specs.Texts.{item_line}
 use Rattle.version_history.specs.declared.version.Version.{Version}
 use Rattle.version_history.specs.Moments.{placed, in_order}
 use Rattle.area_book.specs.declared.version.AreaVersion.{AreaVersion}
-use Rattle.map_core.specs.State.{State}
+use Rattle.map_rules.specs.State.{State}
 use Rattle.moment_query.specs.Rows.{AreaOf, ObjectOf, Says, Word}
 use Rattle.moment_query.specs.Queries.{state_rows, history_rows}
 

@@ -18,7 +18,7 @@ use Rattle.version_history.specs.declared.version.Version.{Version}
 use Rattle.version_history.specs.Moments.{placed, in_order, holds, holds_at, versions_at, versions_of}
 use Rattle.version_history.specs.Versions.{has_ident}
 use Rattle.area_book.specs.declared.version.AreaVersion.{AreaVersion}
-use Rattle.map_core.specs.SoundVersions.{HasSoundShape, HasSoundArea, HasRightItem}
+use Rattle.map_rules.specs.SoundVersions.{HasSoundShape, HasSoundArea, HasRightItem}
 use Rattle.moment_query.specs.Printed.{IsPrintableArea, IsPrintableVersion}
 use Rattle.moment_query.specs.Queries.{areas_at}
 

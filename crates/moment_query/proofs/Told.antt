@@ -6,7 +6,7 @@ use Rattle.std.proofs.lemmas.Bool.Decides.{nat_tests}
 use Rattle.version_history.specs.declared.version.Version.{Version}
 use Rattle.version_history.specs.Moments.{contents, versions_at, versions_of}
 use Rattle.area_book.specs.declared.version.AreaVersion.{AreaVersion}
-use Rattle.map_core.specs.State.{State}
+use Rattle.map_rules.specs.State.{State}
 use Rattle.moment_query.specs.Rows.{Row, Word, PushesRows}
 use Rattle.moment_query.specs.Queries.{area_rows, version_rows, areas_at, or_none, IsStateText, IsHistoryText}
 use Rattle.moment_query.proofs.RowLemmas.{one_row, both_rows}

@@ -13,11 +13,11 @@ use Rattle.version_history.specs.declared.version.Version.{Version}
 use Rattle.version_history.specs.Moments.{rising, versions_at}
 use Rattle.version_history.specs.Versions.{is_current}
 use Rattle.area_book.specs.declared.version.AreaVersion.{AreaVersion}
-use Rattle.map_core.specs.declared.refusal.Answer.{Answer}
-use Rattle.map_core.specs.declared.refusal.Answer.TheVariants.{Taken}
+use Rattle.map_rules.specs.declared.refusal.Answer.{Answer}
+use Rattle.map_rules.specs.declared.refusal.Answer.TheVariants.{Taken}
 use Rattle.area_book.specs.Areas.{area_of}
-use Rattle.map_core.specs.State.{State, opening}
-use Rattle.map_core.specs.Runs.{Run}
+use Rattle.map_rules.specs.State.{State, opening}
+use Rattle.map_rules.specs.Runs.{Run}
 use Rattle.rd_plane.specs.Plane.{Vertex}
 use Rattle.imgeo_types.specs.declared.item.Item.{Item}
 use Rattle.moment_query.specs.Queries.{areas_at}

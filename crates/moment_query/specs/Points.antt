@@ -8,7 +8,8 @@ use Rattle.rd_plane.specs.Covering.{covers}
 use Rattle.version_history.specs.declared.version.Version.{Version}
 use Rattle.version_history.specs.Moments.{holds, holds_at}
 use Rattle.area_book.specs.declared.version.AreaVersion.{AreaVersion}
-use Rattle.map_core.specs.State.{State, is_ground}
+use Rattle.local_check.specs.Maps.{is_ground}
+use Rattle.map_rules.specs.State.{State, part_of}
 
 -- the point is on an edge of the shape
 abbrev pub is_bordered : Point → List (List Vertex) → Bool
@@ -20,7 +21,7 @@ is_area_border moment p a = holds moment a.since a.until && list_any (is_bordere
 
 -- a ground part that holds at the moment
 abbrev pub is_ground_at : ℤ → Version → Bool
-is_ground_at moment v = holds_at moment v && is_ground v.item
+is_ground_at moment v = holds_at moment v && is_ground (part_of v)
 
 -- a ground part holds at the moment, and the point is on an edge of it
 abbrev pub is_part_border : ℤ → Point → Version → Bool

@@ -6,7 +6,7 @@ use Rattle.message_text.specs.Texts.{mutation_lines, shape_lines}
 use Rattle.version_history.specs.declared.version.Version.{Version}
 use Rattle.version_history.specs.Moments.{holds, rising, versions_at, versions_of}
 use Rattle.area_book.specs.declared.version.AreaVersion.{AreaVersion}
-use Rattle.map_core.specs.State.{State}
+use Rattle.map_rules.specs.State.{State}
 use Rattle.moment_query.specs.Rows.{Row, AreaOf, ObjectOf, Says, Word, IsTextOf}
 
 -- whose area it is and when it holds, and then its shapes

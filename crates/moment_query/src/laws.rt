@@ -4,7 +4,7 @@ ghost use Rattle.std.specs.Prelude.{◌≡◌, ℤ, true, false};
 ghost use Rattle.std.specs.List.{All, Contains};
 ghost use Rattle.rd_plane.specs.Plane.{Vertex, point_of};
 ghost use Rattle.version_history.specs.declared.version.Version.{Version};
-ghost use Rattle.map_core.specs.State.{State};
+ghost use Rattle.map_rules.specs.State.{State};
 ghost use Rattle.moment_query.specs.Points.{is_border, is_part_at, point_word};
 
 /// Off the borders, where the point lies in one ground part alone, the answer is its identification.

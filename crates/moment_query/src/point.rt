@@ -4,7 +4,7 @@ ghost use Rattle.std.specs.Option.{option_copied};
 ghost use Rattle.rd_plane.specs.Plane.{point_of};
 ghost use Rattle.rd_plane.specs.Shapes.{IsSoundShape};
 ghost use Rattle.rd_plane.specs.Covering.{covers};
-ghost use Rattle.map_core.specs.SoundVersions.{HasSoundShape};
+ghost use Rattle.map_rules.specs.SoundVersions.{HasSoundShape};
 ghost use Rattle.moment_query.specs.Points.{is_bordered, is_area_border, is_ground_at as is_ground_in, is_part_border, is_part_at, is_border, point_line};
 
 use crate::held::{area_at, is_held, is_version_held};
