@@ -22,17 +22,22 @@ fn texts(alloc: Global, words: &[String]) -> Result<Vec<&str>, AllocError> {
     words.iter().map(|word| word.as_str()).collect(alloc)
 }
 
-// The file of `load`. No other command has one.
+// The word behind the command: the file, where the command has one. It is opened at the first call of the disk, so by such a
+// command alone.
 fn file_of<'a>(words: &[&'a str]) -> Option<&'a str> {
+    words.get(1).copied()
+}
+
+// Whether the file may be made and written.
+fn may_write(words: &[&str]) -> bool {
     match words {
-        ["load", file] => Some(*file),
-        _ => None,
+        ["load", ..] => true,
+        _ => false,
     }
 }
 
 fn status_of_words(rt: &HostRuntime, words: &[&str]) -> Status {
-    let file = file_of(words);
-    let mut outside = RealOutside::new(rt, file, file.is_some());
+    let mut outside = RealOutside::new(rt, file_of(words), may_write(words));
     run(rt.alloc(), words, &Limits::standard(), &mut outside)
 }
 

@@ -4,7 +4,7 @@ use Rattle.std.proofs.lemmas.List.{length-take-le}
 use Rattle.outside.specs.Outside.{Faults, Rose, Shown}
 use Rattle.message_text.specs.declared.limits.Limits.{Limits}
 use Rattle.message_text.specs.declared.message.Message.{Message}
-use Rattle.map_core.specs.State.{State, opening}
+use Rattle.map_rules.specs.State.{State, opening}
 use Rattle.bgt_cli.specs.declared.status.Status.{Status}
 use Rattle.bgt_cli.specs.declared.status.Status.TheVariants.{Good, Refused, Usage, ReadFault, WriteFault, DiskFault, BadJournal, NoMemory, InputLong, JournalFull}
 use Rattle.bgt_cli.specs.Clause.{EndsCheck, IsChecked}

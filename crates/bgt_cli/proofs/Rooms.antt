@@ -1,6 +1,6 @@
 -- Where all records have room, the file is never full.
-use Rattle.std.proofs.Common.{◌≡◌, ◌≤◌, ◌<◌, ◌+◌, ◌++◌, ◌∷◌, ◌∙◌, inl, inr, ℕ, List, [], length, take, drop, Option, refl, sym, ap, subst, arith, append_assoc, length-append, take-append-drop}
-use Rattle.std.specs.Prelude.{Ok, Some, None}
+use Rattle.std.proofs.Common.{◌≡◌, ◌≤◌, ◌+◌, ◌++◌, ◌∷◌, ◌∙◌, inr, ℕ, List, [], length, take, drop, Option, refl, sym, ap, subst, arith, append_assoc, length-append, take-append-drop}
+use Rattle.std.specs.Prelude.{Ok, None}
 use Rattle.std.proofs.lemmas.Option.{same_Some}
 use Rattle.line_feed.specs.Texts.{AreTexts}
 use Rattle.line_feed.proofs.Cutting.{cut, stay, one}
@@ -8,39 +8,28 @@ use Rattle.message_text.specs.declared.limits.Limits.{Limits}
 use Rattle.message_text.specs.declared.message.Message.{Message}
 use Rattle.message_text.specs.Texts.{IsCanonical}
 use Rattle.message_text.proofs.TextLaws.{one_reading}
-use Rattle.map_core.specs.declared.refusal.Answer.{Answer}
-use Rattle.map_core.specs.declared.refusal.Answer.TheVariants.{Taken, Refused}
-use Rattle.map_core.specs.Runs.{AnswersText, IsRead}
-use Rattle.map_core.specs.Steps.{Decision}
-use Rattle.map_core.specs.State.{State, opening}
-use Rattle.map_core.specs.After.{after}
-use Rattle.gate_journal.specs.Journal.{mark, frame, records, StandsFor}
-use Rattle.gate_journal.specs.Reading.{EndsAt}
-use Rattle.gate_journal.proofs.Gates.{length-frame, length-mark, stands_closed}
+use Rattle.map_rules.specs.declared.refusal.Answer.{Answer}
+use Rattle.map_rules.specs.declared.refusal.Answer.TheVariants.{Taken, Refused}
+use Rattle.map_rules.specs.Runs.{AnswersText, IsRead}
+use Rattle.map_rules.specs.Steps.{Decision}
+use Rattle.map_rules.specs.State.{State, opening}
+use Rattle.map_rules.specs.After.{after}
+use Rattle.gate_journal.specs.Journal.{mark, records, StandsFor}
+use Rattle.gate_journal.proofs.Gates.{length-mark, stands_closed}
 use Rattle.gate_journal.proofs.One.{one_list_for}
-use Rattle.map_store.specs.Stands.{Holds}
 use Rattle.map_store.proofs.OneList.{of_ok}
 use Rattle.std.specs.List.{All}
 use Rattle.std.proofs.lemmas.List.{append-nil}
-use Rattle.map_core.specs.Runs.{Run}
+use Rattle.map_rules.specs.Runs.{Run}
 use Rattle.bgt_cli.proofs.Accepting.{accepts_run}
 use Rattle.bgt_cli.specs.declared.status.Status.TheVariants as status
 use Rattle.bgt_cli.specs.declared.status.Status.TheVariants.{JournalFull}
 use Rattle.bgt_cli.specs.Clause.{EndsCheck, IsAllGood}
-use Rattle.bgt_cli.specs.Load.{EndsLoad, FileStands, HasNoRoom}
+use Rattle.bgt_cli.specs.Load.{EndsLoad, FileStands}
 use Rattle.bgt_cli.specs.Loading.{Accepts}
-use Rattle.bgt_cli.specs.Room.{AllTaken, AreCanonical, HasRoom, size_of}
-
-length-records : (ps : List (List ℕ)) → length (records ps) ≡ size_of ps
-length-records [] = refl
-length-records (p ∷ ps) = omega (arith, length-append (1 ∷ frame p) (records ps), length-frame p, length-records ps)
-
-holds_canonical : (limits : Limits) (a b : State) (ps : List (List ℕ)) (ms : List Message) → Holds limits a ps ms b → AreCanonical ps ms
-unfolding Holds
-holds_canonical limits a b [] [] h = tt
-holds_canonical limits a b [] (m ∷ ms) h = absurd h
-holds_canonical limits a b (p ∷ ps) [] h = absurd h
-holds_canonical limits a b (p ∷ ps) (m ∷ ms) (mid, next, rest) = (next.canonical, holds_canonical limits mid b ps ms rest)
+use Rattle.bgt_cli.specs.Records.{AreCanonical, size_of}
+use Rattle.bgt_cli.specs.Room.{AllTaken, HasRoom}
+use Rattle.bgt_cli.proofs.Adding.{holds_canonical, length-records}
 
 module _ (one_answer : (limits : Limits) (old : State) (text : List ℕ) (a b : Answer) (x y : State) → AnswersText limits old text a x → AnswersText limits old text b y → (a ≡ b) × (x ≡ y))
     (one_text : (a b : List ℕ) (m : Message) → IsCanonical a m → IsCanonical b m → a ≡ b) where

@@ -1,5 +1,5 @@
 -- How a run ends whose messages may be kept in a file, status by status, and what a crash leaves of it.
-use Rattle.std.specs.Prelude.{◌≡◌, ◌≢◌, ◌⊎◌, ◌≤◌, ◌<◌, ◌+◌, ℕ, min, Bool, List, [], ◌∷◌, ◌++◌, length, take, map, Option, option_map, Some, None, codes}
+use Rattle.std.specs.Prelude.{◌≡◌, ◌⊎◌, ◌≤◌, ◌<◌, ◌+◌, ℕ, min, List, [], ◌∷◌, ◌++◌, length, take, map, Option, option_map, Some, None, codes}
 use Rattle.std.specs.List.{All}
 use Rattle.std.specs.Borrow.{Bor}
 use Rattle.std.specs.Fmt.{decimal}
@@ -10,18 +10,19 @@ use Rattle.line_feed.specs.Texts.{AreTexts}
 use Rattle.message_text.specs.declared.limits.Limits.{Limits}
 use Rattle.message_text.specs.declared.message.Message.{Message}
 use Rattle.message_text.specs.Texts.{IsCanonical}
-use Rattle.map_core.specs.declared.refusal.Answer.{Answer}
-use Rattle.map_core.specs.declared.refusal.Answer.TheVariants.{Taken}
-use Rattle.map_core.specs.State.{State}
-use Rattle.map_core.specs.Steps.{Decision}
-use Rattle.map_core.specs.Runs.{IsRead}
+use Rattle.map_rules.specs.declared.refusal.Answer.{Answer}
+use Rattle.map_rules.specs.declared.refusal.Answer.TheVariants.{Taken}
+use Rattle.map_rules.specs.State.{State}
+use Rattle.map_rules.specs.Steps.{Decision}
+use Rattle.map_rules.specs.Runs.{IsRead}
 use Rattle.map_core.specs.Replies.{IsReplyLine, AreReplies}
 use Rattle.gate_journal.specs.Reading.{EndsAt, IsNoJournal}
-use Rattle.map_store.specs.Stands.{Stands, IsSpoiltAt}
+use Rattle.map_store.specs.Stands.{Stands, StandsForNone, IsSpoiltAt}
 use Rattle.bgt_cli.specs.declared.status.Status.{Status}
 use Rattle.bgt_cli.specs.declared.status.Status.TheVariants.{Good, Refused, Usage, ReadFault, WriteFault, DiskFault, BadJournal, NoMemory, InputLong, JournalFull}
 use Rattle.bgt_cli.specs.Clause.{IsAllGood}
 use Rattle.bgt_cli.specs.Loading.{Accepts, BeginsWith, HasAnswered, HasAnsweredAllSince, whole_lines}
+use Rattle.bgt_cli.specs.Records.{AddedWithRoom}
 use Rattle.bgt_cli.specs.Register.{RegisterView, IsKeptBy}
 use Rattle.bgt_cli.specs.Session.{tail_line}
 use Rattle.bgt_cli.specs.Stream.{Goes, GoesBy, GoesWithDisk, TellsFront}
@@ -108,9 +109,9 @@ FileStands limits DiskFault gate disk messages = Unit {0}
 FileStands limits JournalFull gate disk messages = FileHas limits disk messages × FileEnds gate disk
 FileStands limits _ gate disk messages = FileHas limits disk messages
 
--- How a run ends that began with this register. Where its file had messages, it has those too that were taken; and at each moment,
--- with so many whole reply lines told since the beginning, a crash left a file that stands for the messages from before and those
--- that were taken of the first so many texts, or of one text more.
+-- How a run ends that began with this register. Where its file had messages, it has those too that were taken, none of them past
+-- the limit on the file; and at each moment, with so many whole reply lines told since the beginning, a crash left a file that stands
+-- for the messages from before and those that were taken of the first so many texts, or of one text more.
 pub record IsAnswered {O : Type 0} (shown : O → Shown) (leaves : O → List ℕ → Type 0) (clock : O → ℕ) (left : O → ℕ → List ℕ → List ℕ → Type 0)
     (limits : Limits) (r : RegisterView) (input : List ℕ) (status : Status) (old new : O) : Type 0 where
   pub n : ℕ
@@ -124,12 +125,13 @@ pub record IsAnswered {O : Type 0} (shown : O → Shown) (leaves : O → List �
   pub cut : AreTexts (take n input) texts tail
   pub ends : EndsLoad limits r.state input (take n input) told kept gate status
   pub file : (first : List Message) → IsKeptBy r (shown old).disk (leaves old) first → FileStands limits status gate (shown new).disk (first ++ kept)
+  pub room : (first : List Message) → IsKeptBy r (shown old).disk (leaves old) first → AddedWithRoom limits first kept
   pub crash : (first : List Message) (before : List ℕ) → IsKeptBy r (shown old).disk (leaves old) first → (shown old).told ≡ Some before
       → LeavesOnly clock left old new (HasAnsweredAllSince limits first r.state before texts)
 
--- How a run of `load` ends over a file that stands for these messages. At each moment since its beginning, with so many whole reply
--- lines told since then, a crash leaves a file that stands for the messages of the file at entry and those that were taken of the
--- first so many texts, or of one text more.
+-- How a run of `load` ends over a file that stands for these messages. What it adds ends within the limit on the file. At each moment
+-- since its beginning, with so many whole reply lines told since then, a crash leaves a file that stands for the messages of the file at
+-- entry and those that were taken of the first so many texts, or of one text more, none of them past that limit.
 pub record IsLoaded {O : Type 0} (shown : O → Shown) (clock : O → ℕ) (left : O → ℕ → List ℕ → List ℕ → Type 0) (limits : Limits) (first : List Message) (state : State) (input : List ℕ) (status : Status) (old new : O) : Type 0 where
   pub n : ℕ
   pub told : List ℕ
@@ -142,6 +144,7 @@ pub record IsLoaded {O : Type 0} (shown : O → Shown) (clock : O → ℕ) (left
   pub cut : AreTexts (take n input) texts tail
   pub ends : EndsLoad limits state input (take n input) told kept gate status
   pub stands : FileStands limits status gate (shown new).disk (first ++ kept)
+  pub room : AddedWithRoom limits first kept
   pub crash : (told_then image : List ℕ) → LeftSince (λ (o : O). (shown o).told) clock left old new told_then image → HasAnswered limits first state texts (min (whole_lines told_then) (length texts)) image
 
 -- the clause of `load`: what was known at entry, and how the run ends then
@@ -180,14 +183,14 @@ TakesAtMostWithDisk limit old new = (n : ℕ) × (told : List ℕ) × (n ≤ lim
 abbrev pub IsRefusedJournal : Limits → (old new : Shown) → Type 0
 IsRefusedJournal limits old new = ForSome old.disk (λ file. (line : List ℕ) × IsBadLine limits file line × (new ≡ record old { told = option_map (λ told. told ++ line) old.told }))
 
--- how a run ends over a file that stands for no list: with its line, or a front of it, or before it
-abbrev pub EndsWithoutList : (line : List ℕ) → Status → Shown → Shown → Type 0
-EndsWithoutList line BadJournal old new = Goes 0 line old new
-EndsWithoutList line WriteFault old new = TellsFront line old new
-EndsWithoutList line NoMemory old new = GoesWithDisk 0 [] old new
-EndsWithoutList line DiskFault old new = GoesWithDisk 0 [] old new
-EndsWithoutList line _ old new = ⊥
+-- how a run ends over a file that stands for no list: with its line, or a front of it, or before it; the disk is as it was
+abbrev pub EndsWithoutList : Limits → (file : List ℕ) → Status → Shown → Shown → Type 0
+EndsWithoutList limits file BadJournal old new = (line : List ℕ) × IsBadLine limits file line × Goes 0 line old new
+EndsWithoutList limits file WriteFault old new = (line : List ℕ) × IsBadLine limits file line × TellsFront line old new
+EndsWithoutList limits file NoMemory old new = new ≡ old
+EndsWithoutList limits file DiskFault old new = new ≡ old
+EndsWithoutList limits file _ old new = ⊥
 
--- where the file is a bad one, such a line is the one for it
+-- so it ends where the file is known
 abbrev pub MeetsNoList : Limits → Status → (old new : Shown) → Type 0
-MeetsNoList limits status old new = ForSome old.disk (λ file. (line : List ℕ) → IsBadLine limits file line → (told : List ℕ) × IsBadLine limits file told × EndsWithoutList told status old new)
+MeetsNoList limits status old new = ForSome old.disk (λ file. StandsForNone limits file → EndsWithoutList limits file status old new)

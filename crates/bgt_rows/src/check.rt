@@ -57,10 +57,10 @@ const ROWS: &[(&[&str], &str, Status)] = &[
         "1 E20 TILED 100000.000 400000.000 100010.000 400000.000\n",
         Status::Refused,
     ),
-    // Shared vertices are not asked for yet: the chains do not cancel.
+    // Three parts of which one lacks the corner of the others.
     (
         &[CROSSING],
-        "1 E20 TILED 100005.000 400000.000 100005.000 400010.000\n",
+        "1 E19 NODE 100005.000 400005.000 100005.000 400000.000 100005.000 400010.000\n",
         Status::Refused,
     ),
     (

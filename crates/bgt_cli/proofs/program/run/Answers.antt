@@ -1,3 +1,8 @@
+use Rattle.std.proofs.Common.{subst}
+use Rattle.bgt_cli.specs.declared.query.Query.{Query}
+use Rattle.bgt_cli.specs.Query.{IsAnswer, MeetsQuery}
+use Rattle.bgt_cli.proofs.Answering.{whole_query}
+use Rattle.bgt_cli.proofs.Asking.{one_query}
 use Rattle.bgt_cli.proofs.Complete.{good_check, whole_check, whole_load, with_all, with_room}
 use Rattle.bgt_cli.proofs.Words.{two_words}
 use Rattle.bgt_cli.proofs.program.run.Goals as goal
@@ -43,3 +48,28 @@ returns-in-load-clause-good_load g c = λ is none input before i t short first s
     c.load.ensures.read_fault c.load.ensures.write_fault c.load.ensures.disk_fault in
     with_all g.O.Outside.shown g.O.Outside.clock g.O.Outside.left c.args.limits.now first state input c.load.result c.args.outside.now c.load.new.outside loaded c.no_refusal.ensures.load all
     (with_room g.O.Outside.shown g.O.Outside.clock g.O.Outside.left c.args.limits.now first state input c.load.result c.args.outside.now c.load.new.outside loaded c.never_full.ensures room whole)
+
+pub returns-in-Some-clause-query : goal.returns-in-Some-clause-query
+returns-in-Some-clause-query g c = λ query asks.
+    let old = g.O.Outside.shown c.args.outside.now in
+    let new = g.O.Outside.shown c.answer_query.new.outside in
+    subst (λ (q : Query). MeetsQuery c.args.limits.now q c.answer_query.result old new)
+    (one_query c.args.words.now c.in-Some.query query c.in-Some.ensures asks) c.answer_query.ensures.told
+
+pub returns-in-Some-clause-whole_query : goal.returns-in-Some-clause-whole_query
+returns-in-Some-clause-whole_query g c = λ is none file reads messages state stands.
+    whole_query (IsAnswer c.in-Some.query state) c.answer_query.result (g.O.Outside.shown c.args.outside.now) (g.O.Outside.shown c.answer_query.new.outside)
+    (g.O.Outside.faults c.args.outside.now) (g.O.Outside.faults c.answer_query.new.outside) none (c.answer_query.ensures.told file reads messages state stands)
+    c.answer_query.ensures.write_fault c.answer_query.ensures.disk_fault
+
+pub returns-in-check-clause-tiled : goal.returns-in-check-clause-tiled
+returns-in-check-clause-tiled g c = λ is input e.
+    let k = c.check.ensures.check input e in
+    c.stays_tiled.ensures.check c.args.limits.now input k.told k.n c.check.result (g.O.Outside.shown c.args.outside.now) (g.O.Outside.shown c.check.new.outside)
+    k.within k.goes k.ends
+
+pub returns-in-load-clause-tiled_load : goal.returns-in-load-clause-tiled_load
+returns-in-load-clause-tiled_load g c = λ is input before i t first state b.
+    let k = c.load.ensures.load input before i t first state b in
+    c.stays_tiled.ensures.load c.args.limits.now b.file first k.kept state input k.told k.n k.gate c.load.result (g.O.Outside.shown c.args.outside.now)
+    (g.O.Outside.shown c.load.new.outside) b.stands k.within k.goes k.ends
