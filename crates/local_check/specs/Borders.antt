@@ -1,6 +1,6 @@
 -- The borders of a holder's map: those of its area, run the other way, and those of its ground parts, each with its number.
 use Rattle.std.specs.Prelude.{◌≡◌, ◌≢◌, ◌+◌, ℕ, cond, Bool, List, [], ◌++◌, map, reverse, filter, length, Option, Some, None, IsSome, is_some, unwrap_or, All}
-use Rattle.std.specs.List.{AllPairs, flat_map, count_by}
+use Rattle.std.specs.List.{AllPairs, Contains, flat_map, count_by}
 use Rattle.rd_plane.specs.Plane.{Vertex}
 use Rattle.rd_plane.specs.Shapes.{IsSoundShape, all_edges}
 use Rattle.half_edge.specs.declared.border.Border.{Border}
@@ -74,14 +74,34 @@ borders_out number change m = area_borders (old_area change.area m.area) ++ part
 abbrev pub borders_in : (List ℕ → ℕ) → Change → List Border
 borders_in number change = area_borders (unwrap_or change.area []) ++ parts_borders number change.coming
 
--- ---- what ties the half-edges to the map
+-- its identification
 abbrev pub ident_in : LevelItem → List ℕ
 ident_in p = p.ident
 
+-- no two of the objects have one identification
+abbrev pub AreDifferent : List LevelItem → Type 0
+AreDifferent parts = AllPairs ◌≢◌ (map ident_in parts)
+
+-- the identification is that of one of the objects
+abbrev pub Names : List LevelItem → List ℕ → Type 0
+Names parts ident = Contains (map ident_in parts) ident
+
+-- whatever is counted, there is as much of it in the sides of the one list as in those of the other
+abbrev pub CountAs : List Border → List Border → Type 0
+CountAs bs cs = (p : Side → Bool) → count_by p (sides bs) ≡ count_by p (sides cs)
+
+-- the borders of the object with this identification come behind the old ones
+pub record AddsLeaver (number : List ℕ → ℕ) (parts : List LevelItem) (ident : List ℕ) (old new : List Border) : Type 0 where
+  pub part : LevelItem
+  pub there : Contains parts part
+  pub named : part.ident ≡ ident
+  pub added : new ≡ old ++ part_borders number part
+
+-- ---- what ties the half-edges to the map
 -- the sides are those of the map's borders, in any order; its objects differ, have numbers, and are sound on the ground
 pub record IsLinked (n : Numbers) (ss : List Side) (m : HolderParts) : Type 0 where
   pub known : All (λ p. IsSome (number_at n p.ident)) m.parts
-  pub different : AllPairs ◌≢◌ (map ident_in m.parts)
+  pub different : AreDifferent m.parts
   pub sound : All IsSoundShape (ground_of m.parts)
   pub borders : (p : Side → Bool) → count_by p ss ≡ count_by p (sides (map_borders (number_in n) m))
 

@@ -1,6 +1,6 @@
 -- A holder's map: its area and its current objects, and what a change makes of it.
 use Rattle.std.specs.BTreeSet.{BTreeSet}
-use Rattle.std.specs.Prelude.{◌≡◌, ◌≢◌, ◌↔◌, ◌+◌, ◌<◌, ◌^◌, ◌&&◌, ◌++◌, not, pos, Bool, ℕ, List, map, filter, length, Option, Some, None, unwrap_or, option_map}
+use Rattle.std.specs.Prelude.{◌≡◌, ◌≢◌, ◌↔◌, ◌+◌, ◌<◌, ◌^◌, ◌&&◌, ◌++◌, not, pos, Bool, ℕ, List, map, filter, length, Option, Some, None, unwrap_or}
 use Rattle.std.specs.List.{AllPairs, All, Contains, list_any}
 use Rattle.std.specs.Ordering.{int_eq}
 use Rattle.std.specs.Str.{bytes_eq}
@@ -10,7 +10,6 @@ use Rattle.imgeo_types.specs.Kinds.{is_dividing}
 use Rattle.level_rules.specs.declared.item.LevelItem.{LevelItem}
 use Rattle.local_check.specs.declared.fault.MapFault.{MapFault}
 use Rattle.local_check.specs.declared.fault.MapFault.TheVariants as fault
-use Rattle.local_check.specs.declared.map.Map.{Map}
 use Rattle.local_check.specs.declared.change.Change.{Change}
 
 -- the area, and the current objects
@@ -59,14 +58,6 @@ pub record IsRightChange (m : HolderParts) (change : Change) : Type 0 where
   pub new : AllPairs ◌≢◌ (map (λ (p : LevelItem). p.ident) (parts_after change m.parts))
   pub area : (shapes : List (List (List Vertex))) → change.area ≡ Some shapes → IsSoundArea shapes
   pub few : length m.parts + length change.coming < 2 ^ 32
-
--- what contracts see of the two maps
-abbrev pub parts_of : Map → HolderParts
-parts_of m = record { area = m.area; parts = m.parts }
-
--- the map, and the tried one where a change is tried
-abbrev pub view_of : Map → Option Map → MapView
-view_of now tried = record { now = parts_of now; tried = option_map parts_of tried }
 
 -- the refusal that a fault tells; lack of memory tells none
 abbrev pub refusal_of : MapFault → Option MapFault

@@ -1,6 +1,6 @@
 -- What the rules before that of the map give it to work on.
-use Rattle.std.proofs.Common.{◌≡◌, ◌∙◌, ◌++◌, ◌+◌, ◌<◌, ◌≤◌, ◌^◌, ℕ, List, [], length, Option, None, ap, sym, subst, arith, length-append}
-use Rattle.std.specs.Prelude.{IfNone, count_by, filter, nat_lt}
+use Rattle.std.proofs.Common.{◌≡◌, ◌∙◌, ◌+◌, ◌<◌, ◌≤◌, ◌^◌, ℕ, List, [], length, Option, None, ap, sym, subst, arith, length-append}
+use Rattle.std.specs.Prelude.{IfNone, count_by, filter}
 use Rattle.std.specs.List.{All}
 use Rattle.std.proofs.lemmas.List.{length-map}
 use Rattle.std.proofs.lemmas.List.Sums.{length-filter}
@@ -25,7 +25,7 @@ use Rattle.map_rules.specs.State.{State, is_object_of, map_now, part_of, parts_n
 use Rattle.map_rules.specs.Steps.{Decision}
 use Rattle.map_rules.proofs.Items.{within}
 use Rattle.map_core.proofs.Deciding.{Leads, alone, both, first, next, passed, same_rule, so, still}
-use Rattle.map_core.specs.Row.{Further, IsTryable, LeadsToMap}
+use Rattle.map_core.specs.Row.{Further, IsTryable}
 
 -- the rules before that of the map found nothing
 pub record FoundNothing (limits : Limits) (s : State) (m : Message) : Type 0 where

@@ -1,10 +1,8 @@
 -- A register that gives up what it tried is at rest again, and sound as before.
 use Rattle.std.proofs.Common.{◌≡◌, ◌∙◌, Option, Some, None, sym, subst}
-use Rattle.std.specs.BTreeMap.{BTreeMap}
 use Rattle.std.specs.Prelude.{option_map}
 use Rattle.message_text.specs.declared.limits.Limits.{Limits}
 use Rattle.message_text.specs.Limits.{IsValid}
-use Rattle.local_check.specs.Maps.{MapView}
 use Rattle.map_rules.specs.Good.{IsSound}
 use Rattle.map_rules.specs.State.{State}
 use Rattle.map_core.specs.declared.held.Held.{Held}

@@ -19,7 +19,7 @@ use Rattle.area_book.specs.Throughout.{FollowsApart, HasEndedBy, IsSoundBook}
 use Rattle.area_book.proofs.Holders.{apart_from_none, is_current}
 use Rattle.area_book.proofs.Setting.{apart_back, same_holder, same_shapes, same_since, until_of}
 use Rattle.map_rules.specs.After.{areas_after}
-use Rattle.map_rules.specs.Dated.{IsDated, IsDatedArea}
+use Rattle.map_rules.specs.Dated.{IsDated}
 use Rattle.map_rules.proofs.Lists.{found-mapped, found-same, in_order}
 use Rattle.map_rules.proofs.Moments.{holds_before, le_false, le_from, lt_false}
 use Rattle.map_rules.proofs.Objects.{same_now}

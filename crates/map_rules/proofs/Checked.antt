@@ -1,9 +1,8 @@
 -- What is found of a map by edges that cancel is what the register's rules say of it.
-use Rattle.std.proofs.Common.{◌≡◌, List, Option, Some, None, sym, refl, ap, inl, inr, subst, arith}
+use Rattle.std.proofs.Common.{List, Option, Some, None, sym, refl, inl, inr, subst, arith}
 use Rattle.std.specs.Prelude.{IfSome}
 use Rattle.std.specs.List.{All}
 use Rattle.rd_plane.specs.Covering.{Cancels, IsNoded, IsSoundArea, IsTiled, IsUncancelled, border}
-use Rattle.rd_plane.specs.Order.{IsLeast, segment_cmp}
 use Rattle.rd_plane.specs.Plane.{Vertex, Segment}
 use Rattle.rd_plane.specs.Shapes.{IsSoundShape}
 use Rattle.local_check.specs.declared.fault.MapFault.{MapFault}

@@ -1,5 +1,5 @@
 -- A message that breaks no other rule is accepted exactly where its holder's new map is tiled, and so it is through a row of texts.
-use Rattle.std.proofs.Common.{◌≡◌, ◌↔◌, ℕ, List, [], ◌∷◌, Option, Some, None, refl, inl, inr, subst}
+use Rattle.std.proofs.Common.{◌≡◌, ℕ, List, [], ◌∷◌, Option, Some, None, refl, inl, inr}
 use Rattle.message_text.specs.declared.limits.Limits.{Limits}
 use Rattle.message_text.specs.declared.message.Message.{Message}
 use Rattle.map_rules.specs.declared.refusal.Answer.{Answer}

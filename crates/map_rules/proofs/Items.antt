@@ -27,10 +27,10 @@ use Rattle.map_rules.specs.SoundVersions.{HasRightItem}
 use Rattle.map_rules.specs.Rules.{header_of, MutationsRule, mutation_refusal, change_refusal, kind_refusal, begin_refusal, item_refusal}
 use Rattle.map_rules.specs.declared.refusal.Refusal.{Refusal}
 use Rattle.map_rules.specs.declared.refusal.Refusal.TheVariants as refusal
-use Rattle.map_rules.specs.declared.refusal.FullName.TheVariants.{Holders, Objects}
+use Rattle.map_rules.specs.declared.refusal.FullName.TheVariants.{Objects}
 use Rattle.map_rules.specs.Good.{IsSound}
 use Rattle.local_check.specs.Maps.{HolderParts}
-use Rattle.map_rules.specs.State.{State, is_object_of, map_now, opening, part_of, parts_now}
+use Rattle.map_rules.specs.State.{State, is_object_of, opening, part_of, parts_now}
 use Rattle.map_rules.specs.Steps.{Decision}
 use Rattle.map_rules.proofs.Dating.{All-changed}
 use Rattle.map_rules.proofs.Ends.{good_opening}

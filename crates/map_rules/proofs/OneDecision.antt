@@ -1,7 +1,6 @@
 -- A message has one decision.
-use Rattle.std.proofs.Common.{◌≡◌, ◌++◌, ◌∙◌, ◌+◌, ℕ, List, [], ◌∷◌, length, Option, Some, None, ap, sym, refl, arith, inl, inr}
+use Rattle.std.proofs.Common.{◌≡◌, ◌++◌, ◌∙◌, ◌+◌, ℕ, List, [], ◌∷◌, length, Option, Some, None, ap, sym, refl}
 use Rattle.rd_plane.specs.Plane.{Vertex}
-use Rattle.rd_plane.specs.Rule.{Rule, ◌then◌, Is}
 use Rattle.rd_plane.specs.Shapes.{IsSoundShape}
 use Rattle.part_shape.specs.declared.fault.ShapeNote.{ShapeNote}
 use Rattle.part_shape.specs.Faults.{IsShapeNote}

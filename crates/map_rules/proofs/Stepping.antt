@@ -1,6 +1,6 @@
 -- A message that no rule refuses is taken, and keeps all right.
 use Rattle.std.proofs.Common.{◌≡◌, ◌≢◌, ◌∙◌, ℕ, refl, sym, List, [], ◌∷◌, inl, inr, subst}
-use Rattle.std.specs.Prelude.{◌+◌, ◌<◌, ◌^◌, ℤ, pos, ◌<ℤ◌, ◌≤ℤ◌, int_le, int_lt, length, Option, Some, None, IfSome, unwrap_or}
+use Rattle.std.specs.Prelude.{◌+◌, ◌<◌, ◌^◌, ℤ, pos, ◌≤ℤ◌, length, Option, Some, None, IfSome, unwrap_or}
 use Rattle.std.specs.Int.Signed.{≤ℤ_refl}
 use Rattle.std.specs.List.{All}
 use Rattle.rd_plane.specs.Covering.{IsSoundArea}
@@ -15,7 +15,6 @@ use Rattle.area_book.specs.Areas.{area_of, newest_area}
 use Rattle.local_check.specs.Maps.{HolderParts, IsRightChange, ground_of}
 use Rattle.map_rules.specs.declared.refusal.Answer.{Answer}
 use Rattle.map_rules.specs.declared.refusal.Answer.TheVariants.{Taken, Refused}
-use Rattle.map_rules.specs.declared.refusal.Refusal.{Refusal}
 use Rattle.map_rules.specs.After.{after}
 use Rattle.map_rules.specs.Changes.{change_of}
 use Rattle.map_rules.specs.Good.{Good, IsFine, IsFineArea, IsTaken}

@@ -1,6 +1,6 @@
 -- A message that is taken keeps all right at every moment.
-use Rattle.std.proofs.Common.{◌≡◌, ℕ, refl, sym, ap, ◌∙◌, arith, inl, inr, List, [], ◌∷◌, map, subst}
-use Rattle.std.specs.Prelude.{ℤ, ◌<ℤ◌, ◌≤ℤ◌, true, ◌≢◌, find, Option, Some, None, IfSome, MatchOption}
+use Rattle.std.proofs.Common.{◌≡◌, ℕ, refl, sym, ap, ◌∙◌, arith, inl, inr, List, map, subst}
+use Rattle.std.specs.Prelude.{ℤ, ◌<ℤ◌, ◌≤ℤ◌, ◌≢◌, Option, Some, None, IfSome}
 use Rattle.std.specs.List.{All, AllPairs, Contains, flat_map}
 use Rattle.std.specs.Str.{bytes_eq}
 use Rattle.std.specs.Int.Signed.{≤ℤ_refl}
@@ -10,21 +10,17 @@ use Rattle.std.proofs.lemmas.List.Elements.{All-append, All-contains}
 use Rattle.std.proofs.lemmas.Slice.Eq.{bytes_eq-Decides}
 use Rattle.rd_plane.specs.Plane.{Vertex}
 use Rattle.rd_plane.specs.Shapes.{IsSoundShape}
-use Rattle.rd_plane.proofs.Members.{contains_cases}
 use Rattle.rd_plane.proofs.Polynomials.{linear}
 use Rattle.imgeo_types.specs.declared.item.Item.{Item}
 use Rattle.message_text.specs.declared.message.Message.{Message}
 use Rattle.message_text.specs.declared.message.Mutation.{Mutation}
 use Rattle.message_text.specs.declared.message.Mutation.TheVariants.{Add, Change, End}
 use Rattle.version_history.specs.declared.version.Version.{Version}
-use Rattle.map_rules.specs.declared.last.LastMessage.{LastMessage}
 use Rattle.map_rules.specs.After.{after, areas_after, begun, touched_by}
 use Rattle.map_rules.specs.State.{State, area_at, map_at, moment_of, parts_at, parts_now}
-use Rattle.area_book.specs.declared.version.AreaVersion.{AreaVersion}
-use Rattle.area_book.specs.Areas.{area_ended, area_of, is_area_of, new_area}
+use Rattle.area_book.specs.Areas.{area_of}
 use Rattle.area_book.specs.Throughout.{HasEndedBy, IsSoundBook}
-use Rattle.area_book.proofs.Holders.{HasNone, IsFound, found, is_current}
-use Rattle.area_book.proofs.Setting.{same_holder, same_since, sound_after, until_of, up_to}
+use Rattle.area_book.proofs.Setting.{sound_after}
 use Rattle.level_rules.specs.declared.item.LevelItem.{LevelItem}
 use Rattle.local_check.specs.Maps.{HolderParts}
 use Rattle.local_check.specs.MapRules.{IsRightMap}

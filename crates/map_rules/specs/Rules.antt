@@ -1,5 +1,5 @@
 -- The rules: why a message is refused by what the register has. Their order is that of `Decision`.
-use Rattle.std.specs.Prelude.{◌≡◌, ◌+◌, ℕ, ℤ, pos, int_lt, int_le, nat_lt, nat_le, Bool, not, ◌&&◌, ◌||◌, List, [], ◌∷◌, ◌++◌, length, count_by, Option, Some, None, is_some, is_none, find, IfSome, ◌<ℤ◌, ◌≤ℤ◌, MatchOption, option_and_then, option_map}
+use Rattle.std.specs.Prelude.{◌≡◌, ◌+◌, ℕ, ℤ, pos, int_lt, int_le, nat_lt, nat_le, Bool, not, ◌&&◌, ◌||◌, List, [], ◌∷◌, ◌++◌, length, count_by, Option, Some, None, is_some, is_none, find, IfSome, ◌<ℤ◌, ◌≤ℤ◌, option_and_then, option_map}
 use Rattle.std.specs.Bool.{if◌then◌else◌}
 use Rattle.std.specs.List.{list_any}
 use Rattle.std.specs.Int.{int_div_euclid}

@@ -1,13 +1,12 @@
-use Rattle.std.proofs.Common.{◌≡◌, ◌∙◌, List, ap, subst, sym}
+use Rattle.std.proofs.Common.{◌∙◌, List, ap, subst, sym}
 use Rattle.std.specs.List.{All}
 use Rattle.rd_plane.specs.Rule.{Is}
 use Rattle.area_book.specs.declared.version.AreaVersion.{AreaVersion}
 use Rattle.local_check.specs.declared.change.Change.{Change}
 use Rattle.version_history.specs.declared.version.Version.{Version}
-use Rattle.map_rules.specs.After.{after, areas_after, versions_after}
+use Rattle.map_rules.specs.After.{areas_after, versions_after}
 use Rattle.map_rules.specs.Dated.{IsDatedArea}
 use Rattle.map_rules.specs.Rules.{stale_area, stale_message}
-use Rattle.map_rules.specs.State.{map_now}
 use Rattle.map_rules.proofs.Dating.{is_fresh}
 use Rattle.map_core.specs.Tried.{state_of}
 use Rattle.map_core.proofs.Deciding.{alone, both, passed, so, still}

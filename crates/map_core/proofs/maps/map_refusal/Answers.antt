@@ -1,5 +1,4 @@
-use Rattle.std.proofs.Common.{◌≡◌, Option, Some, None, ap, sym, refl, subst}
-use Rattle.std.specs.Prelude.{IfNone, IsSome}
+use Rattle.std.proofs.Common.{◌≡◌, Some, ap, sym, refl, subst}
 use Rattle.local_check.specs.Maps.{HolderParts, changed}
 use Rattle.map_rules.specs.Rules.{MapRules}
 use Rattle.map_core.proofs.Deciding.{asked, err_so, ok_so, so}

@@ -1,7 +1,7 @@
-use Rattle.std.proofs.Common.{◌≡◌, ◌∙◌, List, Option, Some, ap, sym}
+use Rattle.std.proofs.Common.{◌∙◌, List, Option, Some, ap, sym}
 use Rattle.rd_plane.specs.Plane.{Vertex}
 use Rattle.area_book.specs.declared.version.AreaVersion.{AreaVersion}
-use Rattle.area_book.specs.Areas.{area_of, areas_with}
+use Rattle.area_book.specs.Areas.{area_of}
 use Rattle.local_check.specs.declared.change.Change.{Change}
 use Rattle.map_rules.proofs.Changing.{area_then}
 use Rattle.map_core.proofs.soundness.area_refusal.Goals as goal

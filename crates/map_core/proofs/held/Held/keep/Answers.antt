@@ -1,4 +1,4 @@
-use Rattle.map_core.proofs.Holding.{is_tried, kept}
+use Rattle.map_core.proofs.Holding.{kept}
 use Rattle.map_core.specs.Tried.{next_state, state_of}
 use Rattle.map_core.proofs.held.Held.keep.Goals as goal
 
