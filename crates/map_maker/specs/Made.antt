@@ -1,6 +1,6 @@
 -- The messages of the generator: a field of cells, joined two and two and parted again, and at last one cell too few.
 -- All lengths are millimetres.
-use Rattle.std.specs.Prelude.{◌+◌, ◌-◌, ◌*◌, ◌/◌, ◌%◌, ◌==◌, ◌++◌, ℕ, suc, zero, ℤ, pos, List, [], ◌∷◌, map, reverse, Option, Some, None, codes}
+use Rattle.std.specs.Prelude.{◌≤◌, ◌+◌, ◌-◌, ◌*◌, ◌/◌, ◌%◌, ◌==◌, ◌++◌, ℕ, suc, zero, ℤ, pos, List, [], ◌∷◌, map, reverse, Some, None, codes}
 use Rattle.std.specs.Bool.{if◌then◌else◌}
 use Rattle.std.specs.List.{flat_map}
 use Rattle.rd_plane.specs.Plane.{Vertex}
@@ -47,13 +47,25 @@ unfoldable pub below : ℕ → List ℕ
 below zero = []
 below (suc n) = below n ++ n ∷ []
 
--- the border of n by n cells: along the south, the east, the north and the west
+-- the border of n by n cells along the south, to the east
+abbrev pub along_south : ℕ → List Vertex
+along_south n = flat_map (λ i. corner i 0 ∷ east i 0 ∷ []) (below n)
+
+-- along the east, to the north
+abbrev pub along_east : ℕ → List Vertex
+along_east n = flat_map (λ j. corner n j ∷ north n j ∷ []) (below n)
+
+-- along the north, to the west
+abbrev pub along_north : ℕ → List Vertex
+along_north n = flat_map (λ i. corner (i + 1) n ∷ east i n ∷ []) (reverse (below n))
+
+-- along the west, to the south
+abbrev pub along_west : ℕ → List Vertex
+along_west n = flat_map (λ j. corner 0 (j + 1) ∷ north 0 j ∷ []) (reverse (below n))
+
+-- the border of n by n cells
 abbrev pub outline : ℕ → List Vertex
-outline n =
-    flat_map (λ i. corner i 0 ∷ east i 0 ∷ []) (below n)
-    ++ (flat_map (λ j. corner n j ∷ north n j ∷ []) (below n)
-    ++ (flat_map (λ i. corner (i + 1) n ∷ east i n ∷ []) (reverse (below n))
-    ++ flat_map (λ j. corner 0 (j + 1) ∷ north 0 j ∷ []) (reverse (below n))))
+outline n = along_south n ++ (along_east n ++ (along_north n ++ along_west n))
 
 -- the last digits of the number, so many
 unfoldable pub padded : ℕ → ℕ → List ℕ
@@ -98,25 +110,41 @@ number n i j = j * n + i + 1
 abbrev pub message : ℕ → List Mutation → Message
 message k mutations = record { holder = holder; moment = moment k; area = None; mutations = mutations }
 
+-- a new object for the cell
+abbrev pub new_cell : ℕ → ℕ → ℕ → Mutation
+new_cell n j i = Add (ident (number n i j)) (item (cell i j))
+
 -- all cells, row by row
 abbrev pub cells : ℕ → List Mutation
-cells n = flat_map (λ j. map (λ i. Add (ident (number n i j)) (item (cell i j))) (below n)) (below n)
+cells n = flat_map (λ j. map (new_cell n j) (below n)) (below n)
 
 -- the first message: the area, and all cells
 abbrev pub first_message : ℕ → Message
 first_message n = record { holder = holder; moment = moment 0; area = Some ((outline n ∷ []) ∷ []); mutations = cells n }
 
+-- the first cell of the row, as it was made at first, becomes the first two cells
+abbrev pub widened : ℕ → ℕ → Mutation
+widened n row = Change (ident (number n 0 row)) (moment 0) (item (double row))
+
+-- and the cell again, from what it became at that second
+abbrev pub narrowed : ℕ → ℕ → ℕ → Mutation
+narrowed n row since = Change (ident (number n 0 row)) (moment since) (item (cell 0 row))
+
+-- a new object with this number has the place of the second cell of the row
+abbrev pub neighbour : ℕ → ℕ → Mutation
+neighbour number row = Add (ident number) (item (cell 1 row))
+
+-- the object with this number ends, as it was made at first
+abbrev pub ended : ℕ → Mutation
+ended number = End (ident number) (moment 0) day
+
 -- the first cell of the row takes its neighbour in
 abbrev pub joined : ℕ → ℕ → Message
-joined n k =
-    let row = k - 1 in
-    message k (Change (ident (number n 0 row)) (moment 0) (item (double row)) ∷ End (ident (number n 1 row)) (moment 0) day ∷ [])
+joined n k = message k (widened n (k - 1) ∷ ended (number n 1 (k - 1)) ∷ [])
 
 -- and gives its place to a new cell
 abbrev pub parted : ℕ → ℕ → Message
-parted n k =
-    let row = k - 2 in
-    message k (Change (ident (number n 0 row)) (moment (k - 1)) (item (cell 0 row)) ∷ Add (ident (n * n + k)) (item (cell 1 row)) ∷ [])
+parted n k = message k (narrowed n (k - 2) (k - 1) ∷ neighbour (n * n + k) (k - 2) ∷ [])
 
 -- the messages between the first and the last: a row is joined, and then parted
 abbrev pub next_message : ℕ → ℕ → Message
@@ -124,7 +152,11 @@ next_message n k = if k % 2 == 1 then joined n k else parted n k
 
 -- the last cell ends, and nothing takes its place
 abbrev pub last_message : ℕ → Message
-last_message n = message (n + 1) (End (ident (n * n)) (moment 0) day ∷ [])
+last_message n = message (n + 1) (ended (n * n) ∷ [])
+
+-- the field has as many rows as a row has cells, from 2 to 400
+abbrev pub IsCount : ℕ → Type 0
+IsCount n = (2 ≤ n) × (n ≤ 400)
 
 -- the messages for n
 abbrev pub made : ℕ → List Message
