@@ -1,6 +1,6 @@
 -- All that the register has can be printed.
-use Rattle.std.proofs.Common.{◌≡◌, ◌≢◌, ◌≤◌, ◌&&◌, ℕ, ℤ, pos, negsuc, int_le, Bool, true, false, cond, List, [], ◌∷◌, length, get_or, map, filter, refl, sym, ap, arith, subst}
-use Rattle.std.specs.Prelude.{Option, Some, None}
+use Rattle.std.proofs.Common.{◌≡◌, ◌≢◌, ◌≤◌, ◌&&◌, ℕ, ℤ, pos, negsuc, int_le, Bool, true, false, cond, List, [], ◌∷◌, length, get_or, refl, ap, arith}
+use Rattle.std.specs.Prelude.{Option, None}
 use Rattle.std.specs.List.{All}
 use Rattle.std.specs.Option.{option_or}
 use Rattle.std.proofs.lemmas.Int.{ints}
@@ -12,7 +12,7 @@ use Rattle.imgeo_types.specs.declared.fault.ItemFault.{ItemFault}
 use Rattle.imgeo_types.specs.declared.fault.ItemFault.TheVariants.{Level}
 use Rattle.imgeo_types.specs.declared.item.Item.{Item}
 use Rattle.imgeo_types.specs.ItemRule.{item_fault, is_level, unless}
-use Rattle.message_text.specs.Printable.{IsPrintableItem, IsPrintableShape}
+use Rattle.message_text.specs.Printable.{IsPrintableShape}
 use Rattle.message_text.specs.Spelling.{IsShortLevel}
 use Rattle.version_history.specs.declared.version.Version.{Version}
 use Rattle.version_history.specs.Moments.{placed, in_order, holds, holds_at, versions_at, versions_of}

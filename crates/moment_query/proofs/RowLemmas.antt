@@ -56,41 +56,53 @@ pub more_rows : {A : Type 0} {x y z : List ℕ} (f : A → List Row) (xs : List 
 more_rows {A} {x = x} {z = z} f xs i item h is p q =
     let step : contents (take (i + 1) xs) ≡ contents (take i xs) ++ item.now ∷ [] =
     ap contents (take_more xs i item h ∙ ap (λ (a : Bor A). take i xs ++ a ∷ []) (sym is)) ∙ map_push (λ (a : Bor A). a.now) (take i xs) item in
-    let all : flat_map f (contents (take (i + 1) xs)) ≡ flat_map f (contents (take i xs)) ++ (f item.now ++ []) = ap (flat_map f) step ∙ flat_map-append f (contents (take i xs)) (item.now ∷ []) in
-    subst (λ (l : List Row). PushesRows l x z) (sym (all ∙ ap (λ (l : List Row). flat_map f (contents (take i xs)) ++ l) (append-nil (f item.now)))) (both_rows p q)
+    let all : flat_map f (contents (take (i + 1) xs)) ≡ flat_map f (contents (take i xs)) ++ (f item.now ++ []) = ap (flat_map f) step
+    ∙ flat_map-append f (contents (take i xs)) (item.now ∷ []) in
+    subst (λ (l : List Row). PushesRows l x z) (sym (all ∙ ap (λ (l : List Row). flat_map f (contents (take i xs)) ++ l) (append-nil (f item.now))))
+    (both_rows p q)
 
 -- all pieces
-pub all_rows : {A : Type 0} {x z : List ℕ} (f : A → List Row) (xs : List (Bor A)) (i : ℕ) → length xs ≤ i → PushesRows (flat_map f (contents (take i xs))) x z → PushesRows (flat_map f (contents xs)) x z
+pub all_rows : {A : Type 0} {x z : List ℕ} (f : A → List Row) (xs : List (Bor A)) (i : ℕ) → length xs ≤ i
+    → PushesRows (flat_map f (contents (take i xs))) x z → PushesRows (flat_map f (contents xs)) x z
 all_rows {A} {x = x} {z = z} f xs i h p = subst (λ (l : List (Bor A)). PushesRows (flat_map f (contents l)) x z) (take_all i xs h) p
 
 -- what all have that are referred to, each has
-pub at_ref : {A : Type 0} (P : A → Type 0) (xs : List (Bor A)) (i : ℕ) (item : Bor A) → i < length xs → item ≡ get_or xs i item → All P (contents xs) → P item.now
+pub at_ref : {A : Type 0} (P : A → Type 0) (xs : List (Bor A)) (i : ℕ) (item : Bor A) → i < length xs → item ≡ get_or xs i item → All P (contents xs)
+    → P item.now
 at_ref {A} P xs i item h is all =
-    subst P (get_or-map (λ (a : Bor A). a.now) xs i item item.now h ∙ ap (λ (a : Bor A). a.now) (sym is)) (all i item.now (omega (arith, h, length-map xs (λ (a : Bor A). a.now))))
+    subst P (get_or-map (λ (a : Bor A). a.now) xs i item item.now h ∙ ap (λ (a : Bor A). a.now) (sym is))
+    (all i item.now (omega (arith, h, length-map xs (λ (a : Bor A). a.now))))
 
 -- a word, fields and a line feed
-pub ends_line : (word : List ℕ) (fields : List (List ℕ)) (old start end new : List ℕ) → start ≡ old ++ word → end ≡ start ++ spaced fields → new ≡ end ++ 10 ∷ [] → new ≡ old ++ ((word ++ spaced fields) ++ 10 ∷ [])
+pub ends_line : (word : List ℕ) (fields : List (List ℕ)) (old start end new : List ℕ) → start ≡ old ++ word → end ≡ start ++ spaced fields
+    → new ≡ end ++ 10 ∷ [] → new ≡ old ++ ((word ++ spaced fields) ++ 10 ∷ [])
 ends_line word fields old start end new p q e =
-    e ∙ (ap (λ (bs : List ℕ). bs ++ 10 ∷ []) (q ∙ (ap (λ (bs : List ℕ). bs ++ spaced fields) p ∙ append_assoc old word (spaced fields))) ∙ append_assoc old (word ++ spaced fields) (10 ∷ []))
+    e ∙ (ap (λ (bs : List ℕ). bs ++ 10 ∷ []) (q ∙ (ap (λ (bs : List ℕ). bs ++ spaced fields) p ∙ append_assoc old word (spaced fields)))
+    ∙ append_assoc old (word ++ spaced fields) (10 ∷ []))
 
 -- a dash stands where there is no moment
-pub no_end : (until : Option ℤ) (old new : List ℕ) → until ≡ None → new ≡ old ++ spaced (codes "-" ∷ []) → (field : List ℕ) × IsEnd field until × (new ≡ old ++ spaced (field ∷ []))
+pub no_end : (until : Option ℤ) (old new : List ℕ) → until ≡ None → new ≡ old ++ spaced (codes "-" ∷ [])
+    → (field : List ℕ) × IsEnd field until × (new ≡ old ++ spaced (field ∷ []))
 no_end until old new none e = (codes "-", rw none refl, e)
 
 -- or no day
-pub no_end_day : (day : Option ℤ) (old new : List ℕ) → day ≡ None → new ≡ old ++ spaced (codes "-" ∷ []) → (field : List ℕ) × IsEndDay field day × (new ≡ old ++ spaced (field ∷ []))
+pub no_end_day : (day : Option ℤ) (old new : List ℕ) → day ≡ None → new ≡ old ++ spaced (codes "-" ∷ [])
+    → (field : List ℕ) × IsEndDay field day × (new ≡ old ++ spaced (field ∷ []))
 no_end_day day old new none e = (codes "-", rw none refl, e)
 
 -- one more piece of a list that is built over references
-pub more_of : {A B : Type 0} {old new : List B} (f : A → List B) (xs : List (Bor A)) (i : ℕ) (item : Bor A) → i < length xs → item ≡ get_or xs i item → old ≡ flat_map f (contents (take i xs)) → new ≡ old ++ f item.now → new ≡ flat_map f (contents (take (i + 1) xs))
+pub more_of : {A B : Type 0} {old new : List B} (f : A → List B) (xs : List (Bor A)) (i : ℕ) (item : Bor A) → i < length xs → item ≡ get_or xs i item
+    → old ≡ flat_map f (contents (take i xs)) → new ≡ old ++ f item.now → new ≡ flat_map f (contents (take (i + 1) xs))
 more_of {A} {B} f xs i item h is p q =
     let step : contents (take (i + 1) xs) ≡ contents (take i xs) ++ item.now ∷ [] =
     ap contents (take_more xs i item h ∙ ap (λ (a : Bor A). take i xs ++ a ∷ []) (sym is)) ∙ map_push (λ (a : Bor A). a.now) (take i xs) item in
-    let all : flat_map f (contents (take (i + 1) xs)) ≡ flat_map f (contents (take i xs)) ++ (f item.now ++ []) = ap (flat_map f) step ∙ flat_map-append f (contents (take i xs)) (item.now ∷ []) in
+    let all : flat_map f (contents (take (i + 1) xs)) ≡ flat_map f (contents (take i xs)) ++ (f item.now ++ []) = ap (flat_map f) step
+    ∙ flat_map-append f (contents (take i xs)) (item.now ∷ []) in
     q ∙ (ap (λ (l : List B). l ++ f item.now) p ∙ sym (all ∙ ap (λ (l : List B). flat_map f (contents (take i xs)) ++ l) (append-nil (f item.now))))
 
 -- what is referred to at a place
-pub ref_at : {A : Type 0} (xs : List (Bor A)) (i : ℕ) (item : Bor A) → i < length xs → item ≡ get_or xs i item → (i < length (contents xs)) × (item.now ≡ get_or (contents xs) i item.now)
+pub ref_at : {A : Type 0} (xs : List (Bor A)) (i : ℕ) (item : Bor A) → i < length xs → item ≡ get_or xs i item
+    → (i < length (contents xs)) × (item.now ≡ get_or (contents xs) i item.now)
 ref_at {A} xs i item h is =
     (omega (arith, h, length-map xs (λ (a : Bor A). a.now)), ap (λ (a : Bor A). a.now) is ∙ sym (get_or-map (λ (a : Bor A). a.now) xs i item item.now h))
 

@@ -1,6 +1,6 @@
 -- What lies at a point.
-use Rattle.std.specs.Prelude.{ℤ, Bool, not, ◌&&◌, ◌||◌, List, [], ◌∷◌, ◌++◌, find, Option, Some, None, codes, ℕ}
-use Rattle.std.specs.Bool.{if◌then◌else◌}
+use Rattle.std.specs.Prelude.{◌≡◌, ℤ, Bool, not, ◌&&◌, ◌||◌, List, [], ◌∷◌, ◌++◌, filter, find, Option, Some, None, codes, ℕ}
+use Rattle.std.specs.Bool.{if◌then◌else◌, MatchBool}
 use Rattle.std.specs.List.{list_any}
 use Rattle.rd_plane.specs.Plane.{Vertex, Point, point_of, off}
 use Rattle.rd_plane.specs.Shapes.{shape_edges}
@@ -51,3 +51,23 @@ point_word s moment p = if is_border s moment (point_of p) then codes "BORDER" e
 -- what lies at the point at the moment, in one line
 unfoldable pub point_line : State → ℤ → Vertex → List ℕ
 point_line s moment p = point_word s moment p ++ 10 ∷ []
+
+-- ---- the same, where a point lies in one ground part at most
+-- the ground parts that hold at the moment and in which the point lies
+abbrev pub parts_around : State → ℤ → Point → List Version
+parts_around s moment p = filter (is_part_at moment p) s.versions
+
+-- where there is no part the word is NONE, where there is one it is its identification; for two or more there is no word
+abbrev pub IsPartWord : List Version → List ℕ → Type 0
+IsPartWord [] word = word ≡ codes "NONE"
+IsPartWord (v ∷ []) word = word ≡ v.ident
+IsPartWord (v ∷ w ∷ more) word = ⊥
+
+-- BORDER on an edge of an area or of a ground part that holds at the moment; else the identification of the one ground part in which
+-- the point lies, and NONE where it lies in none
+abbrev pub IsPointWord : State → ℤ → Vertex → List ℕ → Type 0
+IsPointWord s moment p word = MatchBool (is_border s moment (point_of p)) (word ≡ codes "BORDER") (IsPartWord (parts_around s moment (point_of p)) word)
+
+-- the bytes are that word, in one line
+unfoldable pub IsPointText : State → ℤ → Vertex → List ℕ → Type 0
+IsPointText s moment p text = (word : List ℕ) × IsPointWord s moment p word × (text ≡ word ++ 10 ∷ [])

@@ -1,8 +1,10 @@
 //! What holds at a moment.
 
 ghost use Rattle.std.specs.Prelude.{◌≡◌, ◌<◌, IfOk, filter, IsTrue, length, slice_index_or};
-ghost use Rattle.version_history.specs.Moments.{contents, holds, holds_at};
+ghost use Rattle.version_history.specs.declared.version.Version.{Version};
+ghost use Rattle.version_history.specs.Moments.{contents, holds, holds_at, rising};
 ghost use Rattle.area_book.specs.declared.version.AreaVersion.{AreaVersion};
+ghost use Rattle.moment_query.specs.Ordered.{AreAreasByHolder, AreByHolder};
 ghost use Rattle.moment_query.specs.Queries.{areas_at};
 
 use area_book::{AreaBook, AreaVersion};
@@ -80,9 +82,20 @@ pub(crate) fn areas_at(
     areas: &AreaBook,
     moment: Moment,
 ) -> Result<Vec<&AreaVersion>, NoMemory>
-    ensures { IfOk result (λ found. contents found.items ≡ areas_at moment areas.now.areas) }
+    ensures value { IfOk result (λ found. contents found.items ≡ areas_at moment areas.now.areas) }
+    ensures order { IfOk result (λ found. AreAreasByHolder found.items) }
 {
     let mut found = held_at(alloc, areas, moment)?;
     found.sort_by_key(|area| area.holder)?;
     Ok(found)
+}
+
+/// The versions by rising holder, those of one holder as they stood.
+pub(crate) fn by_holder(versions: Vec<&Version>) -> Result<Vec<&Version>, NoMemory>
+    ensures value { IfOk result (λ grouped. contents grouped.items ≡ rising (λ (v : Version). v.holder) (contents versions.entry.items)) }
+    ensures order { IfOk result (λ grouped. AreByHolder grouped.items) }
+{
+    let mut grouped = versions;
+    grouped.sort_by_key(|version| version.holder)?;
+    Ok(grouped)
 }

@@ -5,9 +5,10 @@ ghost use Rattle.rd_plane.specs.Plane.{point_of};
 ghost use Rattle.rd_plane.specs.Shapes.{IsSoundShape};
 ghost use Rattle.rd_plane.specs.Covering.{covers};
 ghost use Rattle.map_rules.specs.SoundVersions.{HasSoundShape};
-ghost use Rattle.moment_query.specs.Points.{is_bordered, is_area_border, is_ground_at as is_ground_in, is_part_border, is_part_at, is_border, point_line};
+ghost use Rattle.moment_query.specs.Points.{is_bordered, is_area_border, is_ground_at as is_ground_in, is_part_border, is_part_at, is_border, point_line, IsPointText};
 
 use crate::held::{area_at, is_held, is_version_held};
+use crate::laws::one_word;
 use area_book::{AreaBook, AreaVersion};
 use field_text::Moment;
 use map_core::Core;
@@ -127,19 +128,21 @@ fn is_on_border(core: &Core, moment: Moment, point: Pt) -> bool
     is_on_parts(core.history().as_slice(), moment, point)
 }
 
-/// The text of the point at the moment: `BORDER` on an edge of an area or of a ground part, or the identification of the
-/// ground part in which it lies, or `NONE`. Where it lies in several parts, which a tiled map has not, it is the first in
-/// order of making. Looks at all versions.
+/// The text of the point at the moment: `BORDER` on an edge of an area or of a ground part that holds then, else the
+/// identification of the one ground part in which it lies, else `NONE`. Looks at all versions.
 pub fn point_text(alloc: Global, core: &Core, point: Pt, moment: Moment) -> Result<Text, NoMemory>
     requires { core.now.tried ≡ None }
-    ensures { IfOk result (λ text. text ≡ point_line core.now.state moment point) }
+    ensures one { IfOk result (λ text. IsPointText core.now.state moment point text) }
+    ensures line { IfOk result (λ text. text ≡ point_line core.now.state moment point) }
 {
+    one_word();
+    let versions = core.history().as_slice();
     let mut text = Text::new(alloc);
     if is_on_border(core, moment, point) {
         push_bytes(&mut text, b"BORDER\n")?;
         return Ok(text);
     }
-    let Some(part) = part_at(core.history().as_slice(), moment, point) else {
+    let Some(part) = part_at(versions, moment, point) else {
         push_bytes(&mut text, b"NONE\n")?;
         return Ok(text);
     };

@@ -1,12 +1,12 @@
 -- A point off all borders: in one area at most, in one ground part exactly where it is in an area.
-use Rattle.std.proofs.Common.{◌≡◌, ◌≢◌, ◌∙◌, ℕ, List, ap, cond, sym, refl, inl, inr, true, false, Bool, map}
+use Rattle.std.proofs.Common.{◌≡◌, ◌≢◌, ◌∙◌, ℕ, List, ap, cond, sym, inl, inr, true, false, Bool, map}
 use Rattle.std.specs.Prelude.{ℤ, ◌&&◌}
 use Rattle.std.specs.Str.{bytes_eq}
 use Rattle.std.proofs.lemmas.Bool.{cases_Bool, and_from, and_parts, both_ways}
 use Rattle.std.proofs.lemmas.Slice.Eq.{bytes_eq-Decides}
 use Rattle.rd_plane.proofs.Winding.{off-append, off-map_reversed}
 use Rattle.rd_plane.specs.Covering.{cover_count, covers_any}
-use Rattle.rd_plane.specs.Plane.{Point, Segment, off, reversed}
+use Rattle.rd_plane.specs.Plane.{Point, off, reversed}
 use Rattle.rd_plane.specs.Shapes.{all_edges}
 use Rattle.local_check.specs.Maps.{ground_of}
 use Rattle.map_rules.specs.Good.{Good}

@@ -12,18 +12,19 @@ use Rattle.moment_query.proofs.state.state_text.Goals as goal
 pub push_areas-requires : goal.push_areas-requires
 push_areas-requires c =
     let s = c.args.core.now.state in
-    let is = ap contents c.deref.ensures.value ∙ (c.in_ok-areas.ensures ∙ ap (areas_at c.args.moment) c.areas.ensures.value) in
+    let is = ap contents c.deref.ensures.value ∙ (c.in_ok-areas.ensures.value ∙ ap (areas_at c.args.moment) c.areas.ensures.value) in
     subst (λ (l : List AreaVersion). All IsPrintableArea l) (sym is) (areas_at_printable c.args.moment s.areas c.areas.ensures.sound)
 
 pub push_versions-requires : goal.push_versions-requires
 push_versions-requires c =
     let s = c.args.core.now.state in
     let is = ap contents c.deref-2.ensures.value ∙ (c.in_ok-versions.ensures ∙ ap (versions_at c.args.moment) c.history.ensures.versions) in
-    subst (λ (l : List Version). All IsPrintableVersion l) (sym is) (versions_at_printable c.args.moment s.versions c.history.ensures.shapes c.history.ensures.items)
+    subst (λ (l : List Version). All IsPrintableVersion l) (sym is)
+    (versions_at_printable c.args.moment s.versions c.history.ensures.shapes c.history.ensures.items)
 
 pub returns : goal.returns
 returns c =
     let s = c.args.core.now.state in
-    let areas = ap contents c.deref.ensures.value ∙ (c.in_ok-areas.ensures ∙ ap (areas_at c.args.moment) c.areas.ensures.value) in
+    let areas = ap contents c.deref.ensures.value ∙ (c.in_ok-areas.ensures.value ∙ ap (areas_at c.args.moment) c.areas.ensures.value) in
     let versions = ap contents c.deref-2.ensures.value ∙ (c.in_ok-versions.ensures ∙ ap (versions_at c.args.moment) c.history.ensures.versions) in
     told_state s c.args.moment _ _ areas versions c.new-text.ensures c.in_ok-push_areas.ensures c.in_ok-push_versions.ensures
