@@ -1,0 +1,17 @@
+pub mod Members
+pub mod Days
+pub mod Reordered
+pub mod Rises
+pub mod Passing
+pub mod Keeping
+pub mod AtMoment
+pub mod Exporting
+pub mod Adding
+pub mod Deciding
+pub mod Holders
+pub mod Building
+pub mod Again
+pub mod Loading
+pub mod LastLine
+pub mod Cutting
+pub mod Examples
