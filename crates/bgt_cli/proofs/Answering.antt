@@ -1,5 +1,5 @@
 -- How a query ends, from the file at entry on.
-use Rattle.std.proofs.Common.{⊎_elim, ◌≡◌, ◌∙◌, ℕ, List, Option, Some, None, refl, ap, subst}
+use Rattle.std.proofs.Common.{◌≡◌, ◌∙◌, ℕ, List, Option, Some, None, refl, ap, subst}
 use Rattle.std.specs.Prelude.{option_map}
 use Rattle.std.specs.Option.{ForSome}
 use Rattle.outside.specs.Outside.{Shown, Faults, Rose}
@@ -7,9 +7,8 @@ use Rattle.message_text.specs.declared.limits.Limits.{Limits}
 use Rattle.message_text.specs.declared.message.Message.{Message}
 use Rattle.map_rules.specs.State.{State}
 use Rattle.gate_journal.specs.declared.mode.Mode.TheVariants.{Reading}
-use Rattle.gate_journal.specs.Reading.{IsNoJournal}
 use Rattle.gate_journal.specs.Settled.{begun_file}
-use Rattle.map_store.specs.Stands.{IsSpoiltAt, Stands}
+use Rattle.map_store.specs.Stands.{Stands}
 use Rattle.bgt_cli.specs.declared.query.Query.{Query}
 use Rattle.bgt_cli.specs.declared.status.Status.{Status}
 use Rattle.bgt_cli.specs.declared.status.Status.TheVariants.{Good, Refused, Usage, ReadFault, WriteFault}

@@ -1,5 +1,5 @@
 -- How `check` and `load` end keeps what the register promises.
-use Rattle.std.proofs.Common.{◌≡◌, ◌≤◌, ◌++◌, ℕ, List, [], ◌∷◌, length, take, sym, subst, append-nil, Option, None}
+use Rattle.std.proofs.Common.{◌≡◌, ◌≤◌, ◌++◌, ℕ, List, [], ◌∷◌, length, take, sym, subst, append-nil, None}
 use Rattle.message_text.specs.declared.limits.Limits.{Limits}
 use Rattle.message_text.specs.declared.message.Message.{Message}
 use Rattle.map_rules.specs.declared.refusal.Answer.{Answer}
@@ -9,7 +9,7 @@ use Rattle.map_rules.specs.Runs.{Run}
 use Rattle.map_rules.specs.State.{State, opening}
 use Rattle.map_rules.specs.Steps.{Decision}
 use Rattle.map_rules.specs.Tiled.{StaysTiled}
-use Rattle.map_store.specs.Stands.{Holds, Stands}
+use Rattle.map_store.specs.Stands.{Holds}
 use Rattle.bgt_cli.specs.declared.status.Status.{Status}
 use Rattle.bgt_cli.specs.declared.status.Status.TheVariants.{Good as Fine, Refused, Usage, ReadFault, WriteFault, DiskFault, BadJournal, NoMemory, InputLong, JournalFull}
 use Rattle.bgt_cli.specs.Clause.{Answered, EndsCheck}

@@ -1,4 +1,5 @@
-//! Queries of the register that a file keeps: what it has at a moment, the history of an object, what lies at a point.
+//! Queries of the register that a file keeps: what it has at a moment, the history of an object, what lies at a point, and the
+//! map at a moment as messages.
 //!
 //! Words are a query only where its fields are fields. The file is read into a register, and the text of the answer is
 //! told piece by piece. No input is taken, and nothing is written to the file.
@@ -10,7 +11,7 @@ ghost use Rattle.message_text.specs.Spelling.{wide, HasIdent, HasMoment};
 ghost use Rattle.outside.specs.Outside.{NoneFell, Rose};
 ghost use Rattle.bgt_cli.specs.declared.query.Query.{Query};
 ghost use Rattle.bgt_cli.specs.Load.{IsRefusedJournal, MeetsNoList};
-ghost use Rattle.bgt_cli.specs.Query.{Asks, EndsQuery, HasPoint, IsAnswer, MeetsQuery};
+ghost use Rattle.bgt_cli.specs.Query.{Asks, EndsQuery, HasPoint, IsAnswer, LeavesNothingNew, MeetsQuery};
 
 use crate::no_list::{refuse, refuse_gate};
 use crate::status::Status;
@@ -22,7 +23,7 @@ use map_core::Core;
 use map_store::laws::{not_both, one_list};
 use map_store::{StartFault, Store};
 use message_text::Limits;
-use moment_query::{history_text, point_text, state_text};
+use moment_query::{export_text, history_text, point_text, state_text};
 use outside::Outside;
 use rd_plane::{NoMemory, Pt, Text};
 use std::alloc::Global;
@@ -36,6 +37,8 @@ pub enum Query {
     HistoryOf { ident: Ident },
     /// What lies at the point at the moment.
     PointAt { point: Pt, moment: Moment },
+    /// The map at the moment, as messages.
+    ExportAt { moment: Moment },
 }
 
 fn read_state(at: &str) -> Option<Query>
@@ -87,6 +90,17 @@ fn read_point(x: &str, y: &str, at: &str) -> Option<Query>
     }
 }
 
+fn read_export(at: &str) -> Option<Query>
+    ensures { MatchOption result
+        ((moment : ℤ) → ¬ HasMoment wide at.now moment)
+        (λ query. (moment : ℤ) × HasMoment wide at.now moment × (query ≡ Query.ExportAt moment)) }
+{
+    match read_moment(at.as_bytes()) {
+        Ok(moment) => Some(Query::ExportAt { moment }),
+        Err(_) => None,
+    }
+}
+
 impl Query {
     /// What the words ask. `None` exactly where they ask none.
     pub fn read(words: &[&str]) -> Option<Query>
@@ -95,6 +109,7 @@ impl Query {
         match words {
             ["state", _, at] => read_state(at),
             ["history", _, id] => read_history(id),
+            ["export", _, at] => read_export(at),
             ["point", _, x, y, at] => read_point(x, y, at),
             _ => None,
         }
@@ -109,6 +124,7 @@ impl Query {
             Query::StateAt { moment } => state_text(alloc, core, moment),
             Query::HistoryOf { ident } => history_text(alloc, core, ident),
             Query::PointAt { point, moment } => point_text(alloc, core, point, moment),
+            Query::ExportAt { moment } => export_text(alloc, core, moment),
         }
     }
 }
@@ -125,6 +141,7 @@ pub fn answer_query<O: Outside>(
     ensures no_list { MeetsNoList limits.now result (O.shown outside.old) (O.shown outside.new) }
     ensures bad_journal { result ≡ Status.BadJournal → IsRefusedJournal limits.now (O.shown outside.old) (O.shown outside.new) }
     ensures ends { EndsQuery result (O.shown outside.old) (O.shown outside.new) }
+    ensures nothing_new { LeavesNothingNew O.leaves O.clock O.left outside.old outside.new }
     ensures write_fault { result ≡ Status.WriteFault → Rose (O.faults outside.old).writes (O.faults outside.new).writes }
     ensures disk_fault { result ≡ Status.DiskFault → Rose (O.faults outside.old).disks (O.faults outside.new).disks }
     ensures counts { NoneFell (O.faults outside.old) (O.faults outside.new) }

@@ -211,6 +211,7 @@ impl Journal {
         // What is as before, whatever the answer.
         ensures long { ForSome (O.shown outside.old).disk (λ file. 9 < length file → O.shown outside.new ≡ O.shown outside.old) }
         ensures reading { mode ≡ for_.Reading → (O.shown outside.new ≡ O.shown outside.old) × NoneNew (O.leaves outside.old) (O.leaves outside.new) }
+        ensures reading_moments { mode ≡ for_.Reading → LeavesOnly O.clock O.left outside.old outside.new (At (O.shown outside.old).told (O.leaves outside.old)) }
         ensures kept { O.shown outside.new ≡ record (O.shown outside.old) { disk = (O.shown outside.new).disk } }
 
         // Whence each fault.

@@ -1,20 +1,22 @@
-use Rattle.std.proofs.Common.{subst}
+use Rattle.std.proofs.Common.{ℕ, subst}
 use Rattle.bgt_cli.specs.declared.query.Query.{Query}
 use Rattle.bgt_cli.specs.Query.{IsAnswer, MeetsQuery}
+use Rattle.bgt_cli.specs.Trial.{EndsTrial}
 use Rattle.bgt_cli.proofs.Answering.{whole_query}
 use Rattle.bgt_cli.proofs.Asking.{one_query}
 use Rattle.bgt_cli.proofs.Complete.{good_check, whole_check, whole_load, with_all, with_room}
-use Rattle.bgt_cli.proofs.Words.{two_words}
+use Rattle.bgt_cli.proofs.Trials.{one_size, trial_taken}
+use Rattle.bgt_cli.proofs.Words.{is_load, size_asked}
 use Rattle.bgt_cli.proofs.program.run.Goals as goal
 
 pub returns-in-load-clause-unlisted : goal.returns-in-load-clause-unlisted
-returns-in-load-clause-unlisted g c = λ not_check not_load. absurd (not_load (two_words c.args.words.now _ c.in-load.len_at_least c.in-load.len_below c.in-load.is-load))
+returns-in-load-clause-unlisted g c = λ not_check not_load. absurd (not_load (is_load c.args.words.now _ c.in-load.len_at_least c.in-load.len_below c.in-load.is-load))
 
 pub returns-in-load-clause-no_file : goal.returns-in-load-clause-no_file
-returns-in-load-clause-no_file g c = λ not_load. absurd (not_load (two_words c.args.words.now _ c.in-load.len_at_least c.in-load.len_below c.in-load.is-load))
+returns-in-load-clause-no_file g c = λ not_load. absurd (not_load (is_load c.args.words.now _ c.in-load.len_at_least c.in-load.len_below c.in-load.is-load))
 
 pub returns-in-load-clause-taken : goal.returns-in-load-clause-taken
-returns-in-load-clause-taken g c = λ not_load. absurd (not_load (two_words c.args.words.now _ c.in-load.len_at_least c.in-load.len_below c.in-load.is-load))
+returns-in-load-clause-taken g c = λ not_load. absurd (not_load (is_load c.args.words.now _ c.in-load.len_at_least c.in-load.len_below c.in-load.is-load))
 
 pub returns-in-check-clause-whole : goal.returns-in-check-clause-whole
 returns-in-check-clause-whole g c = λ is none input e short.
@@ -49,18 +51,30 @@ returns-in-load-clause-good_load g c = λ is none input before i t short first s
     with_all g.O.Outside.shown g.O.Outside.clock g.O.Outside.left c.args.limits.now first state input c.load.result c.args.outside.now c.load.new.outside loaded c.no_refusal.ensures.load all
     (with_room g.O.Outside.shown g.O.Outside.clock g.O.Outside.left c.args.limits.now first state input c.load.result c.args.outside.now c.load.new.outside loaded c.never_full.ensures room whole)
 
-pub returns-in-Some-clause-query : goal.returns-in-Some-clause-query
-returns-in-Some-clause-query g c = λ query asks.
+pub returns-in-Some-read-clause-query : goal.returns-in-Some-read-clause-query
+returns-in-Some-read-clause-query g c = λ query asks.
     let old = g.O.Outside.shown c.args.outside.now in
     let new = g.O.Outside.shown c.answer_query.new.outside in
     subst (λ (q : Query). MeetsQuery c.args.limits.now q c.answer_query.result old new)
-    (one_query c.args.words.now c.in-Some.query query c.in-Some.ensures asks) c.answer_query.ensures.told
+    (one_query c.args.words.now c.in-Some-read.query query c.in-Some-read.ensures asks) c.answer_query.ensures.told
 
-pub returns-in-Some-clause-whole_query : goal.returns-in-Some-clause-whole_query
-returns-in-Some-clause-whole_query g c = λ is none file reads messages state stands.
-    whole_query (IsAnswer c.in-Some.query state) c.answer_query.result (g.O.Outside.shown c.args.outside.now) (g.O.Outside.shown c.answer_query.new.outside)
+pub returns-in-Some-read-clause-whole_query : goal.returns-in-Some-read-clause-whole_query
+returns-in-Some-read-clause-whole_query g c = λ is none file reads messages state stands.
+    whole_query (IsAnswer c.in-Some-read.query state) c.answer_query.result (g.O.Outside.shown c.args.outside.now) (g.O.Outside.shown c.answer_query.new.outside)
     (g.O.Outside.faults c.args.outside.now) (g.O.Outside.faults c.answer_query.new.outside) none (c.answer_query.ensures.told file reads messages state stands)
     c.answer_query.ensures.write_fault c.answer_query.ensures.disk_fault
+
+pub returns-in-Some-clause-trial : goal.returns-in-Some-clause-trial
+returns-in-Some-clause-trial g c = λ n asks.
+    let old = g.O.Outside.shown c.args.outside.now in
+    let new = g.O.Outside.shown c.trial.new.outside in
+    let size = size_asked c.args.words.now _ c.in-trial.len_at_least c.in-trial.len_below c.in-trial.is-trial n asks in
+    subst (λ (m : ℕ). EndsTrial c.args.limits.now m c.trial.result old new) (one_size _ c.in-Some.size n c.in-Some.ensures size) c.trial.ensures.ends
+
+pub returns-in-Some-clause-taken : goal.returns-in-Some-clause-taken
+returns-in-Some-clause-taken g c = λ not_load not_query.
+    trial_taken c.args.limits.now c.in-Some.size c.args.limits.now.input_bytes c.trial.result (g.O.Outside.shown c.args.outside.now) (g.O.Outside.shown c.trial.new.outside)
+    c.trial.ensures.ends
 
 pub returns-in-check-clause-tiled : goal.returns-in-check-clause-tiled
 returns-in-check-clause-tiled g c = λ is input e.

@@ -8,6 +8,7 @@ use Rattle.bgt_cli.specs.Load.{EndsRefused, not_journal_line, damaged_line}
 use Rattle.bgt_cli.specs.Query.{IsAnswer}
 use Rattle.bgt_cli.specs.Stream.{Goes, TellsFront}
 use Rattle.bgt_cli.proofs.Answering.{as_before, is_no_bad, told_all, told_front}
+use Rattle.bgt_cli.proofs.Quiet.{quiet_on, while_reading, while_telling}
 use Rattle.bgt_cli.proofs.Refusing.{told_bad}
 use Rattle.bgt_cli.proofs.query.answer_query.Goals as goal
 
@@ -67,3 +68,52 @@ returns-clause-no_list g c =
     let old = g.O.Outside.shown c.args.outside.now in
     let new = g.O.Outside.shown c.tell.new.outside in
     is_no_bad c.args.limits.now c.in-Ok.store.state Good old new c.in-Ok.ensures.state
+
+pub returns-in-Err-NotJournal-clause-nothing_new : goal.returns-in-Err-NotJournal-clause-nothing_new
+returns-in-Err-NotJournal-clause-nothing_new g c =
+    let begun = while_reading g.O.Outside.leaves g.O.Outside.clock g.O.Outside.left (g.O.Outside.shown c.args.outside.now).told c.args.outside.now
+    c.start.new.outside
+    (c.in-Err-NotJournal.ensures.reading refl).1 (c.in-Err-NotJournal.ensures.reading_moments refl) in
+    quiet_on g.O.Outside.leaves g.O.Outside.clock g.O.Outside.left c.args.outside.now c.start.new.outside c.refuse.new.outside begun
+    c.refuse.ensures.nothing_new
+
+pub returns-in-Err-Damaged-clause-nothing_new : goal.returns-in-Err-Damaged-clause-nothing_new
+returns-in-Err-Damaged-clause-nothing_new g c =
+    let begun = while_reading g.O.Outside.leaves g.O.Outside.clock g.O.Outside.left (g.O.Outside.shown c.args.outside.now).told c.args.outside.now
+    c.start.new.outside
+    (c.in-Err-Damaged.ensures.reading refl).1 (c.in-Err-Damaged.ensures.reading_moments refl) in
+    quiet_on g.O.Outside.leaves g.O.Outside.clock g.O.Outside.left c.args.outside.now c.start.new.outside c.refuse_gate.new.outside begun
+    c.refuse_gate.ensures.nothing_new
+
+pub returns-in-Err-DiskFault-clause-nothing_new : goal.returns-in-Err-DiskFault-clause-nothing_new
+returns-in-Err-DiskFault-clause-nothing_new g c =
+    while_reading g.O.Outside.leaves g.O.Outside.clock g.O.Outside.left (g.O.Outside.shown c.args.outside.now).told c.args.outside.now c.start.new.outside
+    (c.in-Err-DiskFault.ensures.reading refl).1 (c.in-Err-DiskFault.ensures.reading_moments refl)
+
+pub returns-in-Err-NoMemory-clause-nothing_new : goal.returns-in-Err-NoMemory-clause-nothing_new
+returns-in-Err-NoMemory-clause-nothing_new g c =
+    while_reading g.O.Outside.leaves g.O.Outside.clock g.O.Outside.left (g.O.Outside.shown c.args.outside.now).told c.args.outside.now c.start.new.outside
+    (c.in-Err-NoMemory.ensures.reading refl).1 (c.in-Err-NoMemory.ensures.reading_moments refl)
+
+pub returns-in_default-clause-nothing_new : goal.returns-in_default-clause-nothing_new
+returns-in_default-clause-nothing_new g c =
+    while_reading g.O.Outside.leaves g.O.Outside.clock g.O.Outside.left (g.O.Outside.shown c.args.outside.now).told c.args.outside.now c.start.new.outside
+    (c.in-Ok.ensures.reading refl).1 (c.in-Ok.ensures.reading_moments refl)
+
+pub returns-in_default-tell-clause-nothing_new : goal.returns-in_default-tell-clause-nothing_new
+returns-in_default-tell-clause-nothing_new g c =
+    let begun = while_reading g.O.Outside.leaves g.O.Outside.clock g.O.Outside.left (g.O.Outside.shown c.args.outside.now).told c.args.outside.now
+    c.start.new.outside
+    (c.in-Ok.ensures.reading refl).1 (c.in-Ok.ensures.reading_moments refl) in
+    quiet_on g.O.Outside.leaves g.O.Outside.clock g.O.Outside.left c.args.outside.now c.start.new.outside c.tell.new.outside begun
+    (while_telling g.O.Outside.leaves g.O.Outside.clock g.O.Outside.left (g.O.Outside.shown c.start.new.outside).told c.as_slice.result.now _
+    c.start.new.outside c.tell.new.outside c.tell.ensures.images c.tell.ensures.moments)
+
+pub returns-clause-nothing_new : goal.returns-clause-nothing_new
+returns-clause-nothing_new g c =
+    let begun = while_reading g.O.Outside.leaves g.O.Outside.clock g.O.Outside.left (g.O.Outside.shown c.args.outside.now).told c.args.outside.now
+    c.start.new.outside
+    (c.in-Ok.ensures.reading refl).1 (c.in-Ok.ensures.reading_moments refl) in
+    quiet_on g.O.Outside.leaves g.O.Outside.clock g.O.Outside.left c.args.outside.now c.start.new.outside c.tell.new.outside begun
+    (while_telling g.O.Outside.leaves g.O.Outside.clock g.O.Outside.left (g.O.Outside.shown c.start.new.outside).told c.as_slice.result.now _
+    c.start.new.outside c.tell.new.outside c.tell.ensures.images c.tell.ensures.moments)

@@ -102,3 +102,19 @@ pub returns-in-Err-take_records-clause-reading : goal.returns-in-Err-take_record
 returns-in-Err-take_records-clause-reading g c = λ reading.
     let begun = c.in-Ok.ensures.reading reading in
     (c.take_records.ensures.same ∙ begun.0, λ image now. begun.1 image (c.take_records.ensures.images image now))
+
+pub returns-in-Ok-take_records-clause-reading_moments : goal.returns-in-Ok-take_records-clause-reading_moments
+returns-in-Ok-take_records-clause-reading_moments g c = λ reading.
+    let begun = c.in-Ok.ensures.reading reading in
+    let at_entry = At (g.O.Outside.shown c.args.outside.now).told (g.O.Outside.leaves c.args.outside.now) in
+    run_on g.O.Outside.clock g.O.Outside.left c.args.outside.now c.begin.new.outside c.take_records.new.outside _ _ at_entry
+    (c.in-Ok.ensures.reading_moments reading) c.take_records.ensures.moments (λ told image h. h)
+    (λ told image h. (sym (ap (λ (s : Shown). s.told) begun.0) ∙ h.0, begun.1 image h.1))
+
+pub returns-in-Err-take_records-clause-reading_moments : goal.returns-in-Err-take_records-clause-reading_moments
+returns-in-Err-take_records-clause-reading_moments g c = λ reading.
+    let begun = c.in-Ok.ensures.reading reading in
+    let at_entry = At (g.O.Outside.shown c.args.outside.now).told (g.O.Outside.leaves c.args.outside.now) in
+    run_on g.O.Outside.clock g.O.Outside.left c.args.outside.now c.begin.new.outside c.take_records.new.outside _ _ at_entry
+    (c.in-Ok.ensures.reading_moments reading) c.take_records.ensures.moments (λ told image h. h)
+    (λ told image h. (sym (ap (λ (s : Shown). s.told) begun.0) ∙ h.0, begun.1 image h.1))
