@@ -9,7 +9,7 @@ use std::alloc::Global;
 use std::test::Fail;
 
 // The border between the two halves is straight again.
-const STRAIGHT: &str = "BERICHT G0001 2024-01-01T00:00:03
+pub const STRAIGHT: &str = "BERICHT G0001 2024-01-01T00:00:03
 W G0001.00000000000000000000000000000001 2024-01-01T00:00:02 onbegroeid_terreindeel 0 2024-01-01 fysiekVoorkomen=erf
 RING 100000.000 400000.000 100005.000 400000.000 100005.000 400010.000 100000.000 400010.000
 W G0001.00000000000000000000000000000002 2024-01-01T00:00:02 onbegroeid_terreindeel 0 2024-01-01 fysiekVoorkomen=erf
@@ -18,7 +18,7 @@ EINDE
 ";
 
 // The right half ends, and the area with it.
-const LEFT_ALONE: &str = "BERICHT G0001 2024-01-01T00:00:04
+pub const LEFT_ALONE: &str = "BERICHT G0001 2024-01-01T00:00:04
 GEBIED
 RING 100000.000 400000.000 100005.000 400000.000 100005.000 400010.000 100000.000 400010.000
 V G0001.00000000000000000000000000000002 2024-01-01T00:00:03 2024-01-01
@@ -72,7 +72,7 @@ const NO_OBJECT: &str = "G0001.00000000000000000000000000000009";
 const M1: &str = "2024-01-01T00:00:01";
 
 // The file that `load` makes of these messages.
-fn kept(alloc: Global, texts: &[&str]) -> Result<Vec<u8>, Fail> {
+pub fn kept(alloc: Global, texts: &[&str]) -> Result<Vec<u8>, Fail> {
     let stream = joined(alloc, texts)?;
     let mut outside = MemOutside::new(alloc, stream.as_bytes(), b"", 1 << 12, &[], None, 1 << 14)?;
     run(alloc, &["load", "F"], &Limits::standard(), &mut outside);
@@ -80,7 +80,7 @@ fn kept(alloc: Global, texts: &[&str]) -> Result<Vec<u8>, Fail> {
 }
 
 // What the words tell of the file, in pieces of so many bytes, and how they end, where these calls fail. The input has one byte.
-fn asked(
+pub fn asked(
     alloc: Global,
     file: &[u8],
     words: &[&str],
