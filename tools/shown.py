@@ -2,8 +2,9 @@
 """tools/shown.py: what README.md and examples/ show is what the built program writes.
 
 Runs each command of each ```console block of README.md in a scratch folder that has ./bgt and examples/, and compares what it
-writes with what the block shows; then answers each examples/NAME.txt and compares with examples/NAME.reply. It proves nothing.
-The program has to be built. The last line is 'N passed, M failed'.
+writes with what the block shows; then answers each examples/NAME.txt and compares with examples/NAME.reply. Each
+examples/NAME.map is compared with what is exported, at the moment in its first line, of the register of examples/NAME.txt, and of
+the register of the map itself. It proves nothing. The program has to be built. The last line is 'N passed, M failed'.
 """
 import os
 import re
@@ -42,6 +43,13 @@ def differs(name, got, want):
     return True
 
 
+def exported(messages, moment):
+    """The map at the moment of a register of these messages."""
+    with tempfile.TemporaryDirectory() as folder:
+        scratch(folder)
+        return run(f'./bgt load register < "{messages}" > replies; ./bgt export register {moment}', folder)
+
+
 def main():
     failed = passed = 0
     with open(f"{TOP}/README.md", encoding="utf-8") as it:
@@ -57,6 +65,13 @@ def main():
             want = it.read()
         wrong = differs(f"examples/{name}.txt", run(f'"{TOP}/bgt" check < "{TOP}/examples/{name}.txt"', TOP), want)
         failed, passed = failed + wrong, passed + (not wrong)
+    for name in sorted(it[:-4] for it in os.listdir(f"{TOP}/examples") if it.endswith(".map")):
+        with open(f"{TOP}/examples/{name}.map", "rb") as it:
+            want = it.read()
+        moment = want.split(b"\n", 1)[0].decode().split()[-1]
+        for source in (f"{name}.txt", f"{name}.map"):
+            wrong = differs(f"examples/{source} exported", exported(f"{TOP}/examples/{source}", moment), want)
+            failed, passed = failed + wrong, passed + (not wrong)
     print("README.md and examples/ against the built program:")
     print(f"{passed} passed, {failed} failed")
     return 1 if failed else 0
