@@ -22,16 +22,22 @@ got_at es q = get-from_entries nat_cmp_total es q ∙ found_at q es
 
 pub inserted : (old new : List (ℕ × Box)) (k : ℕ) (box : Box) → ((q : ℕ) → at q new ≡ cond (is_at (nat_cmp k) q) (Some box) (at q old)) →
     map.from_entries {R = nat_cmp} new ≡ map.insert (map.from_entries old) k box
-inserted old new k box h = same_map nat_cmp_total nat_cmp-IsAntisymmetric _ _ (λ q. got_at new q ∙ h q ∙ ap (λ b. cond b (Some box) (at q old)) ((eq_by_cmp_equiv nat_cmp_total).symm k q)
+inserted old new k box h
+    = same_map nat_cmp_total nat_cmp-IsAntisymmetric _ _
+    (λ q. got_at new q ∙ h q ∙ ap (λ b. cond b (Some box) (at q old)) ((eq_by_cmp_equiv nat_cmp_total).symm k q)
     ∙ sym (get-insert nat_cmp_total (map.from_entries old) k box q ∙ ap (cond (is_at (nat_cmp q) k) (Some box)) (got_at old q)))
 
 pub removed : (old new : List (ℕ × Box)) (k : ℕ) → ((q : ℕ) → at q new ≡ cond (is_at (nat_cmp k) q) None (at q old)) →
     map.from_entries {R = nat_cmp} new ≡ map.remove (map.from_entries old) k
-removed old new k h = same_map nat_cmp_total nat_cmp-IsAntisymmetric _ _ (λ q. got_at new q ∙ h q ∙ ap (λ b. cond b None (at q old)) ((eq_by_cmp_equiv nat_cmp_total).symm k q)
+removed old new k h
+    = same_map nat_cmp_total nat_cmp-IsAntisymmetric _ _
+    (λ q. got_at new q ∙ h q ∙ ap (λ b. cond b None (at q old)) ((eq_by_cmp_equiv nat_cmp_total).symm k q)
     ∙ sym (get-remove nat_cmp_total (map.from_entries old) k q ∙ ap (cond (is_at (nat_cmp q) k) None) (got_at old q)))
 
-pub has_some : (es : List (ℕ × Box)) (m : map.FinMap nat_cmp Box) (k : ℕ) → map.from_entries es ≡ m → is_some (at k es) ≡ true → IsSome (map.get m k)
+pub has_some : (es : List (ℕ × Box)) (m : map.FinMap nat_cmp Box) (k : ℕ) → map.from_entries es ≡ m → is_some (at k es) ≡ true
+    → IsSome (map.get m k)
 has_some es m k v h = ap is_some (ap (λ n. map.get n k) (sym v) ∙ got_at es k) ∙ h
 
-pub has_none : (es : List (ℕ × Box)) (m : map.FinMap nat_cmp Box) (k : ℕ) → map.from_entries es ≡ m → is_some (at k es) ≡ false → IsSome (map.get m k) → ⊥
+pub has_none : (es : List (ℕ × Box)) (m : map.FinMap nat_cmp Box) (k : ℕ) → map.from_entries es ≡ m → is_some (at k es) ≡ false
+    → IsSome (map.get m k) → ⊥
 has_none es m k v h s = both_ways (is_some (at k es)) h (ap is_some (sym (got_at es k) ∙ ap (λ n. map.get n k) v) ∙ s)

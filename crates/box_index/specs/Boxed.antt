@@ -9,7 +9,8 @@ use Rattle.rd_plane.specs.Bounds.{Box, HaveCommonPoint}
 -- a box is stored as the coordinates of its two corners
 abbrev pub coded_box : Coded Box
 coded_box = code_by ((ℤ × ℤ) × (ℤ × ℤ)) (coded× (coded× coded_ℤ coded_ℤ) (coded× coded_ℤ coded_ℤ))
-    (λ b. ((b.low.x, b.low.y), (b.high.x, b.high.y))) (λ p. record { low = record { x = p.0.0; y = p.0.1 }; high = record { x = p.1.0; y = p.1.1 } }) (λ _. refl)
+    (λ b. ((b.low.x, b.low.y), (b.high.x, b.high.y)))
+    (λ p. record { low = record { x = p.0.0; y = p.0.1 }; high = record { x = p.1.0; y = p.1.1 } }) (λ _. refl)
 
 -- the slot has a box, which has a point in common with this one
 pub record MeetsAt (boxes : map.FinMap nat_cmp Box) (box : Box) (slot : ℕ) : Type 0 where
