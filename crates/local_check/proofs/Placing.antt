@@ -1,5 +1,5 @@
 -- Places: what is emptied, what is put behind, and what is found.
-use Rattle.std.proofs.Common.{◌≡◌, ◌≢◌, ◌<◌, ◌+◌, ℕ, zero, suc, Bool, true, false, cond, not, List, [], ◌∷◌, ◌++◌, map, length, get_or, take, refl, sym, ap, ◌∙◌, arith, inl, inr, subst}
+use Rattle.std.proofs.Common.{◌≡◌, ◌≢◌, ◌<◌, ◌≤◌, ◌+◌, ℕ, zero, suc, Bool, true, false, cond, not, List, [], ◌∷◌, ◌++◌, map, length, get_or, take, refl, sym, ap, ◌∙◌, arith, inl, inr, subst}
 use Rattle.std.specs.Borrow.{Bor}
 use Rattle.std.specs.Option.{option_copied}
 use Rattle.std.specs.Prelude.{◌⊎◌, IfSome, is_some, vec_capacity, ◌||◌, Option, Some, None, option_to_list, slice_index_or, slice_set, reverse}
@@ -36,7 +36,8 @@ pub at_contains : (slots : List (Option LevelItem)) (k : ℕ) (p : LevelItem) �
 at_contains [] k p h = cc
 at_contains (None ∷ rest) zero p h = cc
 at_contains (None ∷ rest) (suc k) p h = at_contains rest k p h
-at_contains (Some q ∷ rest) zero p h = subst (λ (x : LevelItem). Contains (q ∷ present rest) x) (same q p h) (contains_head q (present rest))
+at_contains (Some q ∷ rest) zero p h
+    = subst (λ (x : LevelItem). Contains (q ∷ present rest) x) (same q p h) (contains_head q (present rest))
   where
     same : (x y : LevelItem) → Some x ≡ Some y → x ≡ y
     same x y e = cc
@@ -61,7 +62,8 @@ one_cleared : (i : List ℕ) (x : Option LevelItem) → ((p : LevelItem) → x �
 one_cleared i None n = refl
 one_cleared i (Some q) n = stays_there i q (n q refl)
 
-pub none_cleared : (i : List ℕ) (slots : List (Option LevelItem)) → ((j : ℕ) (p : LevelItem) → at_place slots j ≡ Some p → p.ident ≡ i → ⊥) → map (cleared i) slots ≡ slots
+pub none_cleared : (i : List ℕ) (slots : List (Option LevelItem)) → ((j : ℕ) (p : LevelItem) → at_place slots j ≡ Some p → p.ident ≡ i → ⊥)
+    → map (cleared i) slots ≡ slots
 none_cleared i [] n = refl
 none_cleared i (x ∷ xs) n =
     ap (λ (y : Option LevelItem). y ∷ map (cleared i) xs) (one_cleared i x (λ p h e. n zero p h e))
@@ -90,7 +92,8 @@ cleared_is i (x ∷ xs) (suc k) p h e one =
     not_first : 0 ≡ suc k → ⊥
     not_first u = omega (arith, u)
 
-pub cleared_at : (i : List ℕ) (slots : List (Option LevelItem)) (k : ℕ) (p : LevelItem) → at_place (map (cleared i) slots) k ≡ Some p → at_place slots k ≡ Some p
+pub cleared_at : (i : List ℕ) (slots : List (Option LevelItem)) (k : ℕ) (p : LevelItem) → at_place (map (cleared i) slots) k ≡ Some p
+    → at_place slots k ≡ Some p
 cleared_at i [] k p h = h
 cleared_at i (x ∷ xs) zero p h = back x h
   where
@@ -155,7 +158,8 @@ at_append (x ∷ xs) y (suc k) p h = elim (at_append xs y k p h) [
 ]
 
 -- an identification that comes later stands at none before it
-pub fresh : (xs : List LevelItem) (x : LevelItem) (ys : List LevelItem) → AllPairs ◌≢◌ (map ident_in (xs ++ x ∷ ys)) → (p : LevelItem) → Contains xs p
+pub fresh : (xs : List LevelItem) (x : LevelItem) (ys : List LevelItem) → AllPairs ◌≢◌ (map ident_in (xs ++ x ∷ ys)) → (p : LevelItem)
+    → Contains xs p
     → p.ident ≡ x.ident → ⊥
 fresh [] x ys h p c e = absurd (omega (arith, c.1))
 fresh (y ∷ xs) x ys h p c e = elim (contains_cases y p xs c) [
@@ -163,7 +167,8 @@ fresh (y ∷ xs) x ys h p c e = elim (contains_cases y p xs c) [
   | inr d ↦ fresh xs x ys (λ i j q lt within. h (suc i) (suc j) q (omega (arith, lt)) (omega (arith, within))) p d e
 ]
   where
-    here : (zs : List LevelItem) → (k : ℕ) × (k < length (map ident_in (zs ++ x ∷ ys))) × (slice_index_or (map ident_in (zs ++ x ∷ ys)) k [] ≡ x.ident)
+    here : (zs : List LevelItem)
+        → (k : ℕ) × (k < length (map ident_in (zs ++ x ∷ ys))) × (slice_index_or (map ident_in (zs ++ x ∷ ys)) k [] ≡ x.ident)
     here [] = (zero, omega arith, refl)
     here (z ∷ zs) = let k = here zs in (suc k.0, omega (arith, k.1), k.2)
 
@@ -171,7 +176,8 @@ fresh (y ∷ xs) x ys h p c e = elim (contains_cases y p xs c) [
     first f = let k = here xs in h zero (suc k.0) [] (omega arith) (omega (arith, k.1)) (f ∙ sym k.2)
 
 -- ---- steps
-pub cleared_more : (old new : Places) (leaving : List (List ℕ)) (i : ℕ) (x : List ℕ) (from : List LevelItem) → i < length leaving → get_or leaving i x ≡ x
+pub cleared_more : (old new : Places) (leaving : List (List ℕ)) (i : ℕ) (x : List ℕ) (from : List LevelItem) → i < length leaving
+    → get_or leaving i x ≡ x
     → new.slots.items ≡ map (cleared x) old.slots.items → present old.slots.items ≡ staying (take i leaving) from
     → present new.slots.items ≡ staying (take (i + 1) leaving) from
 cleared_more old new leaving i x from l q slots so_far =
@@ -181,25 +187,49 @@ cleared_more old new leaving i x from l q slots so_far =
     ∙ sym (staying_more (take i leaving) x from)
     ∙ ap (λ (is : List (List ℕ)). staying is from) (sym (take_more leaving i x l ∙ ap (λ (y : List ℕ). take i leaving ++ y ∷ []) q))
 
-pub still_placed : (old new : Places) (i : List ℕ) → new.slots.items ≡ map (cleared i) old.slots.items → new.numbers ≡ old.numbers → IsPlaced old → IsPlaced new
-still_placed old new i slots numbers placed k p h =
-    ap (λ (n : Numbers). place_at n p.ident) numbers
-    ∙ placed k p (cleared_at i old.slots.items k p (sym (ap (λ (xs : List (Option LevelItem)). at_place xs k) slots) ∙ h))
+-- the object at a place is one of those that stand
+pub one_less : (slots : List (Option LevelItem)) (k : ℕ) (p : LevelItem) → at_place slots k ≡ Some p
+    → length (present slots) ≡ suc (length (present (slice_set slots k None)))
+one_less [] k p h = cc
+one_less (None ∷ rest) zero p h = cc
+one_less (None ∷ rest) (suc k) p h = one_less rest k p h
+one_less (Some q ∷ rest) zero p h = refl
+one_less (Some q ∷ rest) (suc k) p h = ap suc (one_less rest k p h)
 
-pub put_placed : (old new : Places) (part : LevelItem) → new.slots.items ≡ old.slots.items ++ Some part ∷ [] → place_at new.numbers part.ident ≡ Some (length old.slots.items)
+pub few_present : (slots : List (Option LevelItem)) → length (present slots) ≤ length slots
+few_present [] = omega arith
+few_present (None ∷ rest) = omega (arith, few_present rest)
+few_present (Some q ∷ rest) = omega (arith, few_present rest)
+
+pub still_placed : (old new : Places) (i : List ℕ) → new.slots.items ≡ map (cleared i) old.slots.items
+    → new.count ≡ length (present new.slots.items)
+    → new.numbers ≡ old.numbers → IsPlaced old → IsPlaced new
+still_placed old new i slots count numbers placed = record {
+  at = λ k p h. ap (λ (n : Numbers). place_at n p.ident) numbers
+      ∙ placed.at k p (cleared_at i old.slots.items k p (sym (ap (λ (xs : List (Option LevelItem)). at_place xs k) slots) ∙ h));
+  count = count;
+}
+
+pub put_placed : (old new : Places) (part : LevelItem) → new.slots.items ≡ old.slots.items ++ Some part ∷ [] → new.count ≡ old.count + 1
+    → place_at new.numbers part.ident ≡ Some (length old.slots.items)
     → ((q : List ℕ) → part.ident ≢ q → place_at new.numbers q ≡ place_at old.numbers q)
     → ((p : LevelItem) → Contains (present old.slots.items) p → p.ident ≡ part.ident → ⊥) → IsPlaced old → IsPlaced new
-put_placed old new part slots here elsewhere own placed k p h =
-    elim (at_append old.slots.items (Some part) k p (sym (ap (λ (xs : List (Option LevelItem)). at_place xs k) slots) ∙ h)) [
-      | inl e ↦ elsewhere p.ident (λ q. own p (at_contains old.slots.items k p e) (sym q)) ∙ placed k p e
-      | inr e ↦ ap (place_at new.numbers) (sym (ap ident_in (one part p e.1))) ∙ here ∙ ap (λ (j : ℕ). Some j) (sym e.0)
-    ]
+put_placed old new part slots more here elsewhere own placed = record {
+  at = λ k p h. elim (at_append old.slots.items (Some part) k p (sym (ap (λ (xs : List (Option LevelItem)). at_place xs k) slots) ∙ h)) [
+    | inl e ↦ elsewhere p.ident (λ q. own p (at_contains old.slots.items k p e) (sym q)) ∙ placed.at k p e
+    | inr e ↦ ap (place_at new.numbers) (sym (ap ident_in (one part p e.1))) ∙ here ∙ ap (λ (j : ℕ). Some j) (sym e.0)
+  ];
+  count = more ∙ ap (λ (n : ℕ). n + 1) placed.count ∙ sym (ap (λ (xs : List (Option LevelItem)). length (present xs)) slots
+      ∙ ap (λ (ps : List LevelItem). length ps) (present-append old.slots.items (Some part ∷ [])) ∙ length-append (present old.slots.items)
+      (part ∷ []));
+}
   where
     one : (x y : LevelItem) → Some x ≡ Some y → x ≡ y
     one x y e = cc
 
 -- what is found at a place
-pub found_at : (slots : List (Option LevelItem)) (k : ℕ) (p : LevelItem) (ident : List ℕ) (r : Option (Bor LevelItem)) (x : Option LevelItem)
+pub found_at : (slots : List (Option LevelItem)) (k : ℕ) (p : LevelItem) (ident : List ℕ) (r : Option (Bor LevelItem))
+    (x : Option LevelItem)
     → option_copied r ≡ x → x ≡ get_or slots k x → at_place slots k ≡ Some p → p.ident ≡ ident
     → IfSome r (λ b. Contains (present slots) b.now × (b.now.ident ≡ ident))
 found_at slots k p ident None x c i h e = tt
@@ -224,22 +254,26 @@ module _ (old new : Places) (coming rest : List LevelItem) (part : LevelItem) (f
       ∙ ap (λ (ps : List LevelItem). present old.slots.items ++ ps) (sym (back_to_front coming rest part items))
       ∙ so_far
 
-  pub put_all_placed : place_at new.numbers part.ident ≡ Some (length old.slots.items)
+  pub put_all_placed : new.count ≡ old.count + 1 → place_at new.numbers part.ident ≡ Some (length old.slots.items)
       → ((q : List ℕ) → part.ident ≢ q → place_at new.numbers q ≡ place_at old.numbers q) → present old.slots.items ++ reverse coming ≡ from
       → AllPairs ◌≢◌ (map ident_in from) → IsPlaced old → IsPlaced new
-  put_all_placed here elsewhere so_far different placed =
+  put_all_placed more here elsewhere so_far different placed =
       let all = ap (λ (ps : List LevelItem). present old.slots.items ++ ps) (sym (back_to_front coming rest part items)) ∙ so_far in
-      put_placed old new part slots here elsewhere
-      (fresh (present old.slots.items) part (reverse rest) (subst (λ (ps : List LevelItem). AllPairs ◌≢◌ (map ident_in ps)) (sym all) different)) placed
+      put_placed old new part slots more here elsewhere
+      (fresh (present old.slots.items) part (reverse rest)
+      (subst (λ (ps : List LevelItem). AllPairs ◌≢◌ (map ident_in ps)) (sym all) different)) placed
 
 front_known : (n : Numbers) (xs ys : List LevelItem) → AllByRecursion (HasNumber n) (xs ++ ys) → AllByRecursion (HasNumber n) xs
 front_known n [] ys h = tt
 front_known n (x ∷ xs) ys h = (h.0, front_known n xs ys h.1)
 
-pub put_room : (old new : Places) (coming rest : List LevelItem) (part : LevelItem) → coming ≡ rest ++ part ∷ [] → new.slots.items ≡ old.slots.items ++ Some part ∷ []
-    → vec_capacity new.slots ≡ vec_capacity old.slots → ((q : List ℕ) → number_at new.numbers q ≡ number_at old.numbers q) → HasRoomFor old coming → HasRoomFor new rest
+pub put_room : (old new : Places) (coming rest : List LevelItem) (part : LevelItem) → coming ≡ rest ++ part ∷ []
+    → new.slots.items ≡ old.slots.items ++ Some part ∷ []
+    → vec_capacity new.slots ≡ vec_capacity old.slots → ((q : List ℕ) → number_at new.numbers q ≡ number_at old.numbers q)
+    → HasRoomFor old coming → HasRoomFor new rest
 put_room old new coming rest part items slots capacity same ready =
-    let known = recursion_from_All (HasNumber old.numbers) (rest ++ part ∷ []) (subst (All (HasNumber old.numbers)) items ready.known) in record {
+    let known = recursion_from_All (HasNumber old.numbers) (rest ++ part ∷ []) (subst (All (HasNumber old.numbers)) items ready.known)
+    in record {
       room = omega (
         arith,
         ready.room,
@@ -248,5 +282,6 @@ put_room old new coming rest part items slots capacity same ready =
         ap length slots ∙ length-append old.slots.items (Some part ∷ []),
       );
       known = All-from_recursion (HasNumber new.numbers) rest
-          (all_so (HasNumber old.numbers) (HasNumber new.numbers) rest (λ p s. ap is_some (same p.ident) ∙ s) (front_known old.numbers rest (part ∷ []) known));
+          (all_so (HasNumber old.numbers) (HasNumber new.numbers) rest (λ p s. ap is_some (same p.ident) ∙ s)
+          (front_known old.numbers rest (part ∷ []) known));
     }

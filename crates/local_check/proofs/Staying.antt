@@ -39,7 +39,8 @@ any_to q (k ∷ ks) h = elim (cases_Bool (bytes_eq q k)) [
   | inr t ↦ contains_tail k q ks (any_to q ks (rw t at h))
 ]
 
-pub leaves_is : (leaving : List (List ℕ)) (p : LevelItem) (b : Bool) → (b ≡ true → Contains leaving p.ident) → (Contains leaving p.ident → b ≡ true)
+pub leaves_is : (leaving : List (List ℕ)) (p : LevelItem) (b : Bool) → (b ≡ true → Contains leaving p.ident)
+    → (Contains leaving p.ident → b ≡ true)
     → b ≡ leaves leaving p
 leaves_is leaving p b to from = elim (cases_Bool (leaves leaving p)) [
   | inl t ↦ from (any_to p.ident leaving t) ∙ sym t
@@ -57,7 +58,8 @@ filter_to {X} p (y ∷ xs) x c = elim (cases_Bool (p y)) [
     | inl e ↦ (subst (Contains (y ∷ xs)) e (contains_head y xs), subst (λ z. p z ≡ true) e t)
     | inr d ↦ let k = filter_to p xs x d in (contains_tail y x xs k.0, k.1)
   ]
-  | inr t ↦ let k = filter_to p xs x (subst (λ (b : Bool). Contains (cond b (y ∷ filter p xs) (filter p xs)) x) t c) in (contains_tail y x xs k.0, k.1)
+  | inr t ↦ let k = filter_to p xs x (subst (λ (b : Bool). Contains (cond b (y ∷ filter p xs) (filter p xs)) x) t c)
+      in (contains_tail y x xs k.0, k.1)
 ]
 
 filter_from : {X : Type 0} (p : X → Bool) (xs : List X) (x : X) → Contains xs x → p x ≡ true → Contains (filter p xs) x
@@ -66,7 +68,8 @@ filter_from p (y ∷ xs) x c h = elim (contains_cases y x xs c) [
   | inl e ↦ subst (λ (b : Bool). Contains (cond b (y ∷ filter p xs) (filter p xs)) x) (sym (ap p e ∙ h))
       (subst (Contains (y ∷ filter p xs)) e (contains_head y (filter p xs)))
   | inr d ↦ elim (cases_Bool (p y)) [
-    | inl t ↦ subst (λ (b : Bool). Contains (cond b (y ∷ filter p xs) (filter p xs)) x) (sym t) (contains_tail y x (filter p xs) (filter_from p xs x d h))
+    | inl t ↦ subst (λ (b : Bool). Contains (cond b (y ∷ filter p xs) (filter p xs)) x) (sym t)
+        (contains_tail y x (filter p xs) (filter_from p xs x d h))
     | inr t ↦ subst (λ (b : Bool). Contains (cond b (y ∷ filter p xs) (filter p xs)) x) (sym t) (filter_from p xs x d h)
   ]
 ]
@@ -74,7 +77,8 @@ filter_from p (y ∷ xs) x c h = elim (contains_cases y x xs c) [
 -- ---- who stays
 stays_to : (parts : List LevelItem) (index : fin.FinMap nat_cmp Box) (leaving : List (List ℕ)) (mate : LevelItem) → IsIndexOf parts index
     → Stays parts index leaving mate → Contains (staying leaving parts) mate
-stays_to parts index leaving mate x s = filter_from (λ p. not (leaves leaving p)) parts mate (s.slot, (x s.slot s.box s.is).0, sym (s.at mate)) (elim
+stays_to parts index leaving mate x s
+    = filter_from (λ p. not (leaves leaving p)) parts mate (s.slot, (x s.slot s.box s.is).0, sym (s.at mate)) (elim
     (cases_Bool (leaves leaving mate)) [
       | inl t ↦ absurd (s.kept (any_to mate.ident leaving t))
       | inr t ↦ ap not t
@@ -85,7 +89,8 @@ some_of None h = absurd (both_ways false refl h)
 some_of (Some x) h = (x, refl)
 
 -- and that the rule speaks of
-stays_from : (parts : List LevelItem) (index : fin.FinMap nat_cmp Box) (leaving : List (List ℕ)) (mate : LevelItem) → HasBoxes parts index (length parts)
+stays_from : (parts : List LevelItem) (index : fin.FinMap nat_cmp Box) (leaving : List (List ℕ)) (mate : LevelItem)
+    → HasBoxes parts index (length parts)
     → IsLevelled mate → Contains (staying leaving parts) mate → Stays parts index leaving mate
 stays_from parts index leaving mate x s c =
     let k = filter_to (λ p. not (leaves leaving p)) parts mate c in
@@ -106,19 +111,22 @@ new_with coming parts index leaving pair x b = elim b.case [
   | inr k ↦ inr (record { item = k.0; mate = k.1; new = k.2; stays = stays_to parts index leaving k.1 x k.3; breaks = k.4; is = k.5 })
 ]
 
-with_new : (coming parts : List LevelItem) (index : fin.FinMap nat_cmp Box) (leaving : List (List ℕ)) (pair : Pair) → HasBoxes parts index (length parts)
+with_new : (coming parts : List LevelItem) (index : fin.FinMap nat_cmp Box) (leaving : List (List ℕ)) (pair : Pair)
+    → HasBoxes parts index (length parts)
     → BreaksWith coming (staying leaving parts) pair → BreaksNew coming parts index leaving pair
 with_new coming parts index leaving pair x b = record {
   case = elim b [
     | inl k ↦ inl k
-    | inr k ↦ inr (k.item, k.mate, k.new, stays_from parts index leaving k.mate x (second_levelled k.item k.mate k.breaks) k.stays, k.breaks, k.is)
+    | inr k ↦ inr
+        (k.item, k.mate, k.new, stays_from parts index leaving k.mate x (second_levelled k.item k.mate k.breaks) k.stays, k.breaks, k.is)
   ];
 }
 
 stay_hold : (leaving : List (List ℕ)) (parts : List LevelItem) → LevelsHold parts → LevelsHold (staying leaving parts)
 stay_hold leaving parts h = AllPairs-filter (λ x y. BreakLevels x y → ⊥) (λ p. not (leaves leaving p)) parts h
 
-pub pair_after : (coming parts : List LevelItem) (index : fin.FinMap nat_cmp Box) (leaving : List (List ℕ)) (found : Option Pair) → LevelsHold parts
+pub pair_after : (coming parts : List LevelItem) (index : fin.FinMap nat_cmp Box) (leaving : List (List ℕ)) (found : Option Pair)
+    → LevelsHold parts
     → HasBoxes parts index (length parts) →
     MatchOption found ((pair : Pair) → BreaksNew coming parts index leaving pair → ⊥) (IsLeastFault coming parts index leaving)
     → MatchOption found (LevelsHold (staying leaving parts ++ coming)) (IsLeast pair_cmp (BreaksIn (staying leaving parts ++ coming)))

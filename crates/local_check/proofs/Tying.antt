@@ -32,12 +32,14 @@ back_all : {X : Type 0} (P : X → Type 0) (xs : List X) → All P xs → All P 
 back_all P [] h = h
 back_all P (x ∷ xs) h =
     let k = recursion_from_All P (x ∷ xs) h in
-    subst (All P) (sym (reverse-append (x ∷ []) xs)) (All-append P (reverse xs) (x ∷ []) (back_all P xs (All-from_recursion P xs k.1)) (All-from_recursion P (x ∷ []) (k.0, tt)))
+    subst (All P) (sym (reverse-append (x ∷ []) xs))
+    (All-append P (reverse xs) (x ∷ []) (back_all P xs (All-from_recursion P xs k.1)) (All-from_recursion P (x ∷ []) (k.0, tt)))
 
 back_twice : {X : Type 0} (xs : List X) → reverse (reverse xs) ≡ xs
 back_twice xs = reverse-reverse xs
 
-pub room_for : (parts : Places) (t : Tried) (change : Change) → change_of t ≡ change → vec_len parts.slots + length change.coming ≤ vec_capacity parts.slots
+pub room_for : (parts : Places) (t : Tried) (change : Change) → change_of t ≡ change
+    → vec_len parts.slots + length change.coming ≤ vec_capacity parts.slots
     → All (λ p. IsSome (number_at parts.numbers p.ident)) change.coming → HasRoomFor parts t.coming.items
 room_for parts t change e room known =
     let same : reverse t.coming.items ≡ change.coming = ap (λ (c : Change). c.coming) e in record {
@@ -49,8 +51,9 @@ room_for parts t change e room known =
 
 -- ---- the places are made ready
 module _ (now : Map) (parts : Places) (tried : Option Tried) (ground : Standing) (idle : tried ≡ None) (holds : Holds now tried ground)
-    (slots : parts.slots.items ≡ now.parts.slots.items) (numbering : IsNumbering parts.numbers) (grown : IsGrown now.parts.numbers parts.numbers)
-    (places : KeepsPlaces now.parts.numbers parts.numbers) where
+    (slots : parts.slots.items ≡ now.parts.slots.items) (numbering : IsNumbering parts.numbers)
+    (grown : IsGrown now.parts.numbers parts.numbers)
+    (places : KeepsPlaces now.parts.numbers parts.numbers) (count : parts.count ≡ now.parts.count) where
   abbrev next : Map
   next = record { area = now.area; parts = parts }
 
@@ -64,13 +67,17 @@ module _ (now : Map) (parts : Places) (tried : Option Tried) (ground : Standing)
   resting = at_rest.1.tried
 
   pub still_placed : IsPlaced parts
-  still_placed k p h = places p.ident k (at_rest.2.placed k p (sym (ap (λ (xs : List (Option LevelItem)). at_place xs k) slots) ∙ h))
+  still_placed = record {
+    at = λ k p h. places p.ident k (at_rest.2.placed.at k p (sym (ap (λ (xs : List (Option LevelItem)). at_place xs k) slots) ∙ h));
+    count = count ∙ at_rest.2.placed.count ∙ sym (ap (λ (xs : List (Option LevelItem)). length (present xs)) slots);
+  }
 
   pub right_now : IsRightMap (parts_of next)
   right_now = subst IsRightMap (sym same_map) at_rest.0.now
 
   pub linked_now : IsLinked parts.numbers (stands ground) (parts_of next)
-  linked_now = subst (IsLinked parts.numbers (stands ground)) (sym same_map) (grown_linked now.parts.numbers parts.numbers grown (stands ground) (parts_of now) at_rest.1.next)
+  linked_now = subst (IsLinked parts.numbers (stands ground)) (sym same_map)
+      (grown_linked now.parts.numbers parts.numbers grown (stands ground) (parts_of now) at_rest.1.next)
 
   linked_before : IsLinked parts.numbers (standing ground.kept) (parts_of next)
   linked_before = subst (IsLinked parts.numbers (standing ground.kept)) (sym same_map)
@@ -90,7 +97,8 @@ module _ (now : Map) (parts : Places) (tried : Option Tried) (ground : Standing)
   )
 
   -- the change is tried
-  pub taken : (t : Tried) (g : Standing) → g.kept ≡ ground.kept → g.tried ≡ true → IsLinked parts.numbers (stands g) (changed (change_of t) (parts_of next))
+  pub taken : (t : Tried) (g : Standing) → g.kept ≡ ground.kept → g.tried ≡ true
+      → IsLinked parts.numbers (stands g) (changed (change_of t) (parts_of next))
       → IsRightMap (changed (change_of t) (parts_of next)) → HasRoomFor parts t.coming.items → Holds next (Some t) g
   taken t g kept flag linked right room = (
     record { now = right_now; tried = right },
@@ -104,12 +112,14 @@ module _ (now : Map) (parts : Places) (tried : Option Tried) (ground : Standing)
   )
 
 -- ---- the tried change is made
-pub committed : (now next : Map) (t : Tried) (ground g : Standing) → Holds now (Some t) ground → parts_of next ≡ changed (change_of t) (parts_of now) → IsPlaced next.parts
+pub committed : (now next : Map) (t : Tried) (ground g : Standing) → Holds now (Some t) ground
+    → parts_of next ≡ changed (change_of t) (parts_of now) → IsPlaced next.parts
     → ((q : List ℕ) → number_at next.parts.numbers q ≡ number_at now.parts.numbers q) → next.parts.numbers.next ≡ now.parts.numbers.next
     → g.slots ≡ ground.slots → g.kept ≡ ground.slots → g.tried ≡ false → Holds next None g
 committed now next t ground g holds value placed same count slots kept flag =
     let linked = subst (IsLinked next.parts.numbers (stands ground)) (sym value)
-    (grown_linked now.parts.numbers next.parts.numbers (same_numbers now.parts.numbers next.parts.numbers same) (stands ground) (changed (change_of t) (parts_of now)) holds.1.next) in (
+    (grown_linked now.parts.numbers next.parts.numbers (same_numbers now.parts.numbers next.parts.numbers same) (stands ground)
+    (changed (change_of t) (parts_of now)) holds.1.next) in (
       record { now = subst IsRightMap (sym value) holds.0.tried; tried = tt },
       record {
         numbering = same_numbering now.parts.numbers next.parts.numbers same count holds.1.numbering;

@@ -23,9 +23,10 @@ abbrev pub cleared : List ℕ → Option LevelItem → Option LevelItem
 cleared ident None = None
 cleared ident (Some p) = cond (bytes_eq p.ident ident) None (Some p)
 
--- of each object that stands its place is kept
-abbrev pub IsPlaced : Places → Type 0
-IsPlaced s = (k : ℕ) (p : LevelItem) → at_place s.slots.items k ≡ Some p → place_at s.numbers p.ident ≡ Some k
+-- of each object that stands its place is kept, and those that stand are counted
+pub record IsPlaced (s : Places) : Type 0 where
+  pub at : (k : ℕ) (p : LevelItem) → at_place s.slots.items k ≡ Some p → place_at s.numbers p.ident ≡ Some k
+  pub count : s.count ≡ length (present s.slots.items)
 
 -- there is room for these objects, and each has a number
 pub record HasRoomFor (s : Places) (coming : List LevelItem) : Type 0 where

@@ -17,6 +17,8 @@ use std::alloc::Global;
 pub(crate) struct Places {
     pub slots: Vec<Option<LevelItem>>,
     pub numbers: Numbers,
+    /// How many objects stand.
+    pub count: usize,
 }
 
 impl Places {
@@ -24,10 +26,12 @@ impl Places {
     pub(crate) fn new(alloc: Global) -> Places
         ensures none { result.slots.items ≡ [] }
         ensures numbering { IsNumbering result.numbers }
+        ensures placed { IsPlaced result }
     {
         Places {
             slots: Vec::new(alloc),
             numbers: Numbers::new(alloc),
+            count: 0,
         }
     }
 
@@ -61,12 +65,14 @@ impl Places {
     fn clear(&mut self, ident: Ident)
         requires { IsPlaced self.old }
         ensures slots { self.new.slots.items ≡ map (cleared ident) self.old.slots.items }
+        ensures count { self.new.count ≡ length (present self.new.slots.items) }
         ensures numbers { self.new.numbers ≡ self.old.numbers }
         ensures len { vec_len self.new.slots ≡ vec_len self.old.slots }
         ensures capacity { vec_capacity self.new.slots ≡ vec_capacity self.old.slots }
     {
         if let Some(place) = self.place(ident) {
             self.slots[place] = None;
+            self.count -= 1;
         }
     }
 
@@ -87,8 +93,10 @@ impl Places {
     // Puts the object behind all others.
     fn put(&mut self, part: LevelItem)
         requires room { vec_len self.old.slots < vec_capacity self.old.slots }
+        requires few { self.old.count ≤ vec_len self.old.slots }
         requires known { IsSome (number_at self.old.numbers part.ident) }
         ensures slots { self.new.slots.items ≡ self.old.slots.items ++ Some part ∷ [] }
+        ensures count { self.new.count ≡ self.old.count + 1 }
         ensures same { (q : List ℕ) → number_at self.new.numbers q ≡ number_at self.old.numbers q }
         ensures next { self.new.numbers.next ≡ self.old.numbers.next }
         ensures here { place_at self.new.numbers part.ident ≡ Some (length self.old.slots.items) }
@@ -97,6 +105,7 @@ impl Places {
     {
         self.numbers.set_place(part.ident, self.slots.len());
         self.slots.push_reserved(Some(part));
+        self.count += 1;
     }
 
     // Puts the objects behind all others, the last of the list first.
@@ -118,6 +127,7 @@ impl Places {
     pub(crate) fn prepare(&mut self, coming: &[LevelItem]) -> Result<(), NoMemory>
         requires { IsNumbering self.old.numbers }
         ensures slots { self.new.slots.items ≡ self.old.slots.items }
+        ensures count { self.new.count ≡ self.old.count }
         ensures numbering { IsNumbering self.new.numbers }
         ensures grown { IsGrown self.old.numbers self.new.numbers }
         ensures places { KeepsPlaces self.old.numbers self.new.numbers }

@@ -29,14 +29,16 @@ abbrev has_long_ring : Limits → Mutation → Bool
 has_long_ring limits mutation = list_any (has_many_points limits) (rings_of mutation)
 
 -- where no limit is named, none is passed
-none_named : (a b c d : Bool) (p q r s : LimitName) → when a p (when b q (when c r (when d s None))) ≡ None → (a ≡ false) × (b ≡ false) × (c ≡ false) × (d ≡ false)
+none_named : (a b c d : Bool) (p q r s : LimitName) → when a p (when b q (when c r (when d s None))) ≡ None
+    → (a ≡ false) × (b ≡ false) × (c ≡ false) × (d ≡ false)
 none_named true b c d p q r s e = cc
 none_named false true c d p q r s e = cc
 none_named false false true d p q r s e = cc
 none_named false false false true p q r s e = cc
 none_named false false false false p q r s e = (refl, refl, refl, refl)
 
-passes : (arc : Option ℕ) (limit : Option LimitName) (message m : Message) → judged arc limit message ≡ Ok m → (limit ≡ None) × (message ≡ m)
+passes : (arc : Option ℕ) (limit : Option LimitName) (message m : Message) → judged arc limit message ≡ Ok m
+    → (limit ≡ None) × (message ≡ m)
 passes (Some line) limit message m e = cc
 passes None (Some which) message m e = cc
 passes None None message m e = (refl, cc)
@@ -69,7 +71,8 @@ counted_points rings some small = record {
 -- a shape with a point
 some_rings : (rings : List (List Vertex)) → IsPrintableShape rings → 0 < points_of rings
 some_rings [] h = absurd (h.some refl)
-some_rings (ring ∷ rings) h = omega (arith, sum_by-cons (λ (r : List Vertex). length r) ring rings, some_points ring (h.points 0 ring (omega arith)))
+some_rings (ring ∷ rings) h
+    = omega (arith, sum_by-cons (λ (r : List Vertex). length r) ring rings, some_points ring (h.points 0 ring (omega arith)))
 
 block_shapes : (area : Option (List (List (List Vertex)))) → IfSome area (All IsPrintableShape) → All IsPrintableShape (unwrap_or area [])
 block_shapes None h = λ k d within. absurd (omega arith)
@@ -78,20 +81,28 @@ block_shapes (Some shapes) h = h
 -- the places of a message within the limits of a run
 pub within_limits : (limits : Limits) (m : Message) → IsValid limits → IsPrintable m → passed_limit limits m ≡ None → IsCounted m
 within_limits limits m valid printable none =
-    let passed = none_named (nat_lt limits.mutations (length m.mutations)) (list_any (has_many_rings limits) m.mutations) (list_any (has_long_ring limits) m.mutations)
+    let passed = none_named (nat_lt limits.mutations (length m.mutations)) (list_any (has_many_rings limits) m.mutations)
+    (list_any (has_long_ring limits) m.mutations)
     (nat_lt limits.area_points (sum_by points_of (area_shapes m))) limit.Mutations limit.Rings limit.Points limit.Area none in
     let shapes : All IsPrintableShape (area_shapes m) = block_shapes m.area printable.area in
-    let small : sum_by points_of (area_shapes m) < 2 ^ 32 = omega (arith, ltb-false limits.area_points (sum_by points_of (area_shapes m)) passed.3, valid.area_points.1) in
+    let small : sum_by points_of (area_shapes m) < 2 ^ 32
+    = omega (arith, ltb-false limits.area_points (sum_by points_of (area_shapes m)) passed.3, valid.area_points.1) in
     record {
       few = omega (arith, ltb-false limits.mutations (length m.mutations) passed.0, valid.mutations.1);
       mutations = λ k d within. let x = slice_index_or m.mutations k d in record {
-        few = omega (arith, valid.shape_rings.1, ltb-false limits.shape_rings (length (rings_of x)) (each_fails (has_many_rings limits) m.mutations passed.1 k d within));
+        few = omega (
+          arith,
+          valid.shape_rings.1,
+          ltb-false limits.shape_rings (length (rings_of x)) (each_fails (has_many_rings limits) m.mutations passed.1 k d within),
+        );
         corners = λ j e inside.
-            let fails = each_fails (has_many_points limits) (rings_of x) (each_fails (has_long_ring limits) m.mutations passed.2 k d within) j e inside in
+            let fails = each_fails (has_many_points limits) (rings_of x) (each_fails (has_long_ring limits) m.mutations passed.2 k d within)
+            j e inside in
             omega (arith, valid.ring_points.1, ltb-false limits.ring_points (length (slice_index_or (rings_of x) j e)) fails);
       };
       few_shapes = omega (arith, small, few points_of (area_shapes m) (λ k d within. some_rings _ (shapes k d within)));
-      shapes = λ k d within. counted_points _ (shapes k d within).points (omega (arith, small, get_or-le-sum_by points_of (area_shapes m) k d within));
+      shapes = λ k d within. counted_points _ (shapes k d within).points
+          (omega (arith, small, get_or-le-sum_by points_of (area_shapes m) k d within));
     }
 
 -- a message that was read

@@ -70,7 +70,8 @@ choose false x y h k = k
 -- digits stand before what is in a line
 onto : (k n : ℕ) (acc : List ℕ) → All IsInLine acc → All IsInLine (digits_onto k 10 false n acc)
 onto zero n acc h = h
-onto (suc k) n acc h = choose (n / 10 == 0) (digit_glyph false (n % 10) ∷ acc) (digits_onto k 10 false (n / 10) (digit_glyph false (n % 10) ∷ acc)) (mark (digit_glyph false (n % 10)) acc (glyph (n % 10)) h)
+onto (suc k) n acc h = choose (n / 10 == 0) (digit_glyph false (n % 10) ∷ acc)
+    (digits_onto k 10 false (n / 10) (digit_glyph false (n % 10) ∷ acc)) (mark (digit_glyph false (n % 10)) acc (glyph (n % 10)) h)
     (onto k (n / 10) (digit_glyph false (n % 10) ∷ acc) (mark (digit_glyph false (n % 10)) acc (glyph (n % 10)) h))
 
 number : (n : ℕ) → All IsInLine (decimal n)
@@ -87,16 +88,20 @@ minus false = nothing
 
 mm : (text : List ℕ) (x : ℤ) → IsPrintedMm text x → All IsInLine text
 mm text x h =
-    subst (λ (t : List ℕ). All IsInLine t) (sym h.text) (behind (sign _) _ (minus _) (behind (padded h.width _) _ (pads h.width _) (mark 46 (padded 3 (unsigned_abs x % 1000)) (omega arith) (pads 3 (unsigned_abs x % 1000)))))
+    subst (λ (t : List ℕ). All IsInLine t) (sym h.text) (behind (sign _) _ (minus _) (behind (padded h.width _) _ (pads h.width _)
+    (mark 46 (padded 3 (unsigned_abs x % 1000)) (omega arith) (pads 3 (unsigned_abs x % 1000)))))
 
 with_moment : (words text : List ℕ) (moment : ℤ) → All IsInLine words → WithMoment words text moment → All IsInLine text
-with_moment words text moment w (f, is, e) = subst (λ (t : List ℕ). All IsInLine t) (sym e) (behind words f w (field f (solid_moment f moment is.is)))
+with_moment words text moment w (f, is, e)
+    = subst (λ (t : List ℕ). All IsInLine t) (sym e) (behind words f w (field f (solid_moment f moment is.is)))
 
 point : (text : List ℕ) (p : Vertex) → IsPointText text p → All IsInLine text
-point text p (x, y, is_x, is_y, e) = subst (λ (t : List ℕ). All IsInLine t) (sym e) (behind x _ (mm x p.x is_x) (mark 32 y (omega arith) (mm y p.y is_y)))
+point text p (x, y, is_x, is_y, e)
+    = subst (λ (t : List ℕ). All IsInLine t) (sym e) (behind x _ (mm x p.x is_x) (mark 32 y (omega arith) (mm y p.y is_y)))
 
 edge : (text : List ℕ) (e : Segment) → IsEdgeText text e → All IsInLine text
-edge text e (a, b, is_a, is_b, is) = subst (λ (t : List ℕ). All IsInLine t) (sym is) (behind a _ (point a e.a is_a) (mark 32 b (omega arith) (point b e.b is_b)))
+edge text e (a, b, is_a, is_b, is)
+    = subst (λ (t : List ℕ). All IsInLine t) (sym is) (behind a _ (point a e.a is_a) (mark 32 b (omega arith) (point b e.b is_b)))
 
 words_number : (words : List ℕ) (n : ℕ) → All IsInLine words → All IsInLine (numbered words n)
 words_number words n w = behind words (decimal n) w (number n)
@@ -151,7 +156,8 @@ letters f h = λ k d lt. grind (arith, common_steps, h k d lt)
 ident : (f : List ℕ) → IsIdent f → All IsInLine f
 ident f h =
     let long = h.len in
-    let spelled : f ≡ take 5 f ++ (get_or f 5 0 ∷ drop 6 f) = sym (take-append-drop 5 f) ∙ ap (λ (x : List ℕ). take 5 f ++ x) (drop_more f 5 0 (omega arith)) in
+    let spelled : f ≡ take 5 f ++ (get_or f 5 0 ∷ drop 6 f)
+    = sym (take-append-drop 5 f) ∙ ap (λ (x : List ℕ). take 5 f ++ x) (drop_more f 5 0 (omega arith)) in
     let stop = h.stop in
     subst (λ (x : List ℕ). All IsInLine x) (sym spelled)
     (behind (take 5 f) (get_or f 5 0 ∷ drop 6 f) (holder _ h.holder) (mark _ _ (omega (arith, stop)) (letters _ h.behind)))
@@ -195,6 +201,10 @@ answered Taken text o h = is_text text _ h (literal (codes "OK") refl)
 answered (Refused r) text o h = refused r text o h
 
 -- the line that is made of these has one end
-pub one_end : (n : ℕ) (answer : Answer) (text start first spaced said new : List ℕ) → IsOwnedAnswer answer → IsAnswerText text answer → start ≡ [] → first ≡ start ++ decimal n → spaced ≡ first ++ 32 ∷ [] → said ≡ spaced ++ text → new ≡ said ++ 10 ∷ [] → HasOneEnd new
-one_end n answer text start first spaced said new o is e_start e_first e_spaced e_said e_new =
-    (decimal n ++ 32 ∷ text, and_word (decimal n) text (number n) (answered answer text o is), rw (e_new, e_said, e_spaced, e_first, e_start) (simp append_assoc))
+pub one_end : (n : ℕ) (answer : Answer) (text start first spaced said new : List ℕ) → IsOwnedAnswer answer → IsAnswerText text answer
+    → start ≡ [] → first ≡ start ++ decimal n → spaced ≡ first ++ 32 ∷ [] → said ≡ spaced ++ text → new ≡ said ++ 10 ∷ [] → HasOneEnd new
+one_end n answer text start first spaced said new o is e_start e_first e_spaced e_said e_new = (
+  decimal n ++ 32 ∷ text,
+  and_word (decimal n) text (number n) (answered answer text o is),
+  rw (e_new, e_said, e_spaced, e_first, e_start) (simp append_assoc),
+)

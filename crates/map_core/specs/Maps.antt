@@ -2,9 +2,10 @@
 use Rattle.std.specs.BTreeMap.{BTreeMap, get}
 use Rattle.std.specs.Cmp.Lexicographic.{slice_cmp}
 use Rattle.std.specs.Ordering.{nat_cmp}
-use Rattle.std.specs.Prelude.{◌≡◌, ◌≢◌, ℕ, List, [], Option, Some, None, IfSome, option_map, unwrap_or}
+use Rattle.std.specs.Prelude.{◌≡◌, ◌≢◌, ℕ, List, [], Option, Some, None, IfSome, IsSome, option_map, unwrap_or}
 use Rattle.local_check.specs.Maps.{HolderParts, MapView}
-use Rattle.map_rules.specs.State.{State, map_now}
+use Rattle.map_rules.specs.declared.last.LastMessage.{LastMessage}
+use Rattle.map_rules.specs.State.{State, map_now, moment_of}
 
 -- the holder's map, where there is one
 abbrev pub map_in : BTreeMap (List ℕ) MapView → List ℕ → Option MapView
@@ -45,12 +46,18 @@ pub record IsGivenUp (old new : BTreeMap (List ℕ) MapView) (holder : List ℕ)
   pub here : map_in new holder ≡ option_map (λ (v : MapView). resting v.now) (map_in old holder)
   pub others : (other : List ℕ) → other ≢ holder → map_in new other ≡ map_in old other
 
+-- each holder with an accepted message has a map
+abbrev pub HasMaps : List LastMessage → BTreeMap (List ℕ) MapView → Type 0
+HasMaps last maps = (holder : List ℕ) → IsSome (moment_of holder last) → IsSome (map_in maps holder)
+
 -- they are the current maps of the holders in the state
-abbrev pub AreMapsOf : State → BTreeMap (List ℕ) MapView → Type 0
-AreMapsOf s maps = (holder : List ℕ) → now_in maps holder ≡ map_now holder s
+pub record AreMapsOf (s : State) (maps : BTreeMap (List ℕ) MapView) : Type 0 where
+  pub now : (holder : List ℕ) → now_in maps holder ≡ map_now holder s
+  pub there : HasMaps s.last maps
 
 -- the holder's map in the next state is tried; the map of each other holder is the same in both states, and at rest
 pub record AreTriedMaps (s next : State) (holder : List ℕ) (maps : BTreeMap (List ℕ) MapView) : Type 0 where
   pub here : map_in maps holder ≡ Some (trying (map_now holder s) (map_now holder next))
   pub others : (other : List ℕ) → other ≢ holder → IfSome (map_in maps other) (λ v. v.tried ≡ None)
   pub stay : (other : List ℕ) → other ≢ holder → (now_in maps other ≡ map_now other s) × (map_now other next ≡ map_now other s)
+  pub there : HasMaps s.last maps × HasMaps next.last maps

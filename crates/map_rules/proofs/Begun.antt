@@ -32,13 +32,24 @@ pub record IsBegun (holder : List ℕ) (moment : ℤ) (ms : List Mutation) (v : 
 abbrev news : List ℕ → ℤ → List Mutation → List Version
 news holder moment ms = flat_map (begun holder moment) ms
 
-more : (holder : List ℕ) (moment : ℤ) (x : Mutation) (ms : List Mutation) (v : Version) → IsBegun holder moment ms v → IsBegun holder moment (x ∷ ms) v
-more holder moment x ms v b = record { by = b.by; of = contains_tail x b.by ms b.of; begins = b.begins; holder_is = b.holder_is; since_is = b.since_is; current = b.current }
+more : (holder : List ℕ) (moment : ℤ) (x : Mutation) (ms : List Mutation) (v : Version) → IsBegun holder moment ms v
+    → IsBegun holder moment (x ∷ ms) v
+more holder moment x ms v b = record {
+  by = b.by;
+  of = contains_tail x b.by ms b.of;
+  begins = b.begins;
+  holder_is = b.holder_is;
+  since_is = b.since_is;
+  current = b.current;
+}
 
-first : (holder : List ℕ) (moment : ℤ) (x : Mutation) (ms : List Mutation) (ident : List ℕ) (item : Item) → IsBeginning x ident item → IsBegun holder moment (x ∷ ms) (new_version holder ident item moment)
-first holder moment x ms ident item b = record { by = x; of = contains_head x ms; begins = b; holder_is = refl; since_is = refl; current = refl }
+first : (holder : List ℕ) (moment : ℤ) (x : Mutation) (ms : List Mutation) (ident : List ℕ) (item : Item) → IsBeginning x ident item
+    → IsBegun holder moment (x ∷ ms) (new_version holder ident item moment)
+first holder moment x ms ident item b
+    = record { by = x; of = contains_head x ms; begins = b; holder_is = refl; since_is = refl; current = refl }
 
-pub begun_is : (holder : List ℕ) (moment : ℤ) (ms : List Mutation) (v : Version) → Contains (news holder moment ms) v → IsBegun holder moment ms v
+pub begun_is : (holder : List ℕ) (moment : ℤ) (ms : List Mutation) (v : Version) → Contains (news holder moment ms) v
+    → IsBegun holder moment ms v
 begun_is holder moment [] v c = absurd (omega (arith, c.1))
 begun_is holder moment (Add i item ∷ ms) v c = elim (contains_cases (new_version holder i item moment) v (news holder moment ms) c) [
   | inl q ↦ subst (IsBegun holder moment (Add i item ∷ ms)) q (first holder moment (Add i item) ms i item (refl, refl))
@@ -56,14 +67,21 @@ named_by (Change i was item) ident own b = b.0
 named_by (End i was day) ident own b = absurd b
 
 -- no two of one identification begin
-others : (holder : List ℕ) (moment : ℤ) (x : Mutation) (ms : List Mutation) (v : Version) → v.ident ≡ ident_of x → All (λ y. ident_of x ≢ ident_of y) ms → All (Follows v) (news holder moment ms)
+others : (holder : List ℕ) (moment : ℤ) (x : Mutation) (ms : List Mutation) (v : Version) → v.ident ≡ ident_of x
+    → All (λ y. ident_of x ≢ ident_of y) ms → All (Follows v) (news holder moment ms)
 others holder moment x ms v q a = all_from (Follows v) (news holder moment ms) (λ w c e. let b = begun_is holder moment ms w c in
     absurd (All-contains (λ y. ident_of x ≢ ident_of y) ms b.by a b.of (sym q ∙ e ∙ sym (named_by b.by w.ident w.item b.begins))))
 
-pub begun_follow : (holder : List ℕ) (moment : ℤ) (ms : List Mutation) → AllPairs (λ x y. ident_of x ≢ ident_of y) ms → AllPairs Follows (news holder moment ms)
+pub begun_follow : (holder : List ℕ) (moment : ℤ) (ms : List Mutation) → AllPairs (λ x y. ident_of x ≢ ident_of y) ms
+    → AllPairs Follows (news holder moment ms)
 begun_follow holder moment [] p = λ i j d l m. absurd (omega (arith, m))
 begun_follow holder moment (Add i item ∷ ms) p = AllPairs-cons Follows (new_version holder i item moment) (news holder moment ms)
-    (others holder moment (Add i item) ms (new_version holder i item moment) refl (pairs_head (λ x y. ident_of x ≢ ident_of y) (Add i item) ms p)) (begun_follow holder moment ms (pairs_tail (λ x y. ident_of x ≢ ident_of y) (Add i item) ms p))
+    (others holder moment (Add i item) ms (new_version holder i item moment) refl
+    (pairs_head (λ x y. ident_of x ≢ ident_of y) (Add i item) ms p))
+    (begun_follow holder moment ms (pairs_tail (λ x y. ident_of x ≢ ident_of y) (Add i item) ms p))
 begun_follow holder moment (Change i was item ∷ ms) p = AllPairs-cons Follows (new_version holder i item moment) (news holder moment ms)
-    (others holder moment (Change i was item) ms (new_version holder i item moment) refl (pairs_head (λ x y. ident_of x ≢ ident_of y) (Change i was item) ms p)) (begun_follow holder moment ms (pairs_tail (λ x y. ident_of x ≢ ident_of y) (Change i was item) ms p))
-begun_follow holder moment (End i was day ∷ ms) p = begun_follow holder moment ms (pairs_tail (λ x y. ident_of x ≢ ident_of y) (End i was day) ms p)
+    (others holder moment (Change i was item) ms (new_version holder i item moment) refl
+    (pairs_head (λ x y. ident_of x ≢ ident_of y) (Change i was item) ms p))
+    (begun_follow holder moment ms (pairs_tail (λ x y. ident_of x ≢ ident_of y) (Change i was item) ms p))
+begun_follow holder moment (End i was day ∷ ms) p
+    = begun_follow holder moment ms (pairs_tail (λ x y. ident_of x ≢ ident_of y) (End i was day) ms p)

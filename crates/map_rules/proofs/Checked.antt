@@ -18,7 +18,8 @@ abbrev Shapes : Type 0
 Shapes = List (List (List Vertex))
 
 cancels_or : (edges : List Segment) (e : Segment) → Cancels edges → IsUncancelled edges e → ⊥
-cancels_or edges e cancels u = let both = cancels e u.occurs in elim u.wrong [ inl two ↦ omega (arith, two, both.0) | inr none ↦ omega (arith, none, both.1) ]
+cancels_or edges e cancels u = let both = cancels e u.occurs in elim u.wrong
+    [ inl two ↦ omega (arith, two, both.0) | inr none ↦ omega (arith, none, both.1) ]
 
 -- nothing was found
 pub taken : ((area parts : Shapes) → IsSoundArea area → All IsSoundShape parts → Cancels (border area parts) → IsTiled area parts)
@@ -26,11 +27,15 @@ pub taken : ((area parts : Shapes) → IsSoundArea area → All IsSoundShape par
 taken tiles m area parts h = (h.0, (h.1.0, tiles m.area (ground_of m.parts) area parts h.1.1))
 
 module _ (m : HolderParts) where
-  of_levels : (f : MapFault) → LevelRule fault.LevelOverlap m.parts (Some f) → IfSome (refusal_by f) (λ r. LevelRule refusal.Levels m.parts (Some r))
-  of_levels f h = subst (λ (x : MapFault). IfSome (refusal_by x) (λ r. LevelRule refusal.Levels m.parts (Some r))) (sym h.2) (h.0, h.1, refl)
+  of_levels : (f : MapFault) → LevelRule fault.LevelOverlap m.parts (Some f)
+      → IfSome (refusal_by f) (λ r. LevelRule refusal.Levels m.parts (Some r))
+  of_levels f h
+      = subst (λ (x : MapFault). IfSome (refusal_by x) (λ r. LevelRule refusal.Levels m.parts (Some r))) (sym h.2) (h.0, h.1, refl)
 
-  of_node : (f : MapFault) → NodeRule fault.Node (edges_of m) (Some f) → IfSome (refusal_by f) (λ r. NodeRule refusal.Node (edges_of m) (Some r))
-  of_node f h = subst (λ (x : MapFault). IfSome (refusal_by x) (λ r. NodeRule refusal.Node (edges_of m) (Some r))) (sym h.2) (h.0, h.1, refl)
+  of_node : (f : MapFault) → NodeRule fault.Node (edges_of m) (Some f)
+      → IfSome (refusal_by f) (λ r. NodeRule refusal.Node (edges_of m) (Some r))
+  of_node f h
+      = subst (λ (x : MapFault). IfSome (refusal_by x) (λ r. NodeRule refusal.Node (edges_of m) (Some r))) (sym h.2) (h.0, h.1, refl)
 
   of_tiled : (f : MapFault) → (IsTiled m.area (ground_of m.parts) → Cancels (edges_of m)) → CancelRule fault.Tiled (edges_of m) (Some f)
       → IfSome (refusal_by f) (λ r. TiledRule m (Some r))
@@ -42,17 +47,21 @@ module _ (m : HolderParts) where
   by_levels None h = tt
   by_levels (Some r) h = inl h
 
-  by_node : (o : Option Refusal) → LevelRule refusal.Levels m.parts None → IfSome o (λ r. NodeRule refusal.Node (edges_of m) (Some r)) → IfSome o (λ r. MapRules m (Some r))
+  by_node : (o : Option Refusal) → LevelRule refusal.Levels m.parts None → IfSome o (λ r. NodeRule refusal.Node (edges_of m) (Some r))
+      → IfSome o (λ r. MapRules m (Some r))
   by_node None levels h = tt
   by_node (Some r) levels h = inr (levels, inl h)
 
-  by_tiled : (o : Option Refusal) → LevelRule refusal.Levels m.parts None → IsNoded (edges_of m) → IfSome o (λ r. TiledRule m (Some r)) → IfSome o (λ r. MapRules m (Some r))
+  by_tiled : (o : Option Refusal) → LevelRule refusal.Levels m.parts None → IsNoded (edges_of m) → IfSome o (λ r. TiledRule m (Some r))
+      → IfSome o (λ r. MapRules m (Some r))
   by_tiled None levels noded h = tt
   by_tiled (Some r) levels noded h = inr (levels, inr (noded, h))
 
 -- this fault was found
-pub refused : ((area parts : Shapes) → IsSoundArea area → All IsSoundShape parts → IsNoded (border area parts) → IsTiled area parts → Cancels (border area parts))
-    → (m : HolderParts) (f : MapFault) → IsSoundArea m.area → All IsSoundShape (ground_of m.parts) → MapRule m (Some f) → IfSome (refusal_by f) (λ r. MapRules m (Some r))
+pub refused : ((area parts : Shapes) → IsSoundArea area → All IsSoundShape parts → IsNoded (border area parts) → IsTiled area parts
+    → Cancels (border area parts))
+    → (m : HolderParts) (f : MapFault) → IsSoundArea m.area → All IsSoundShape (ground_of m.parts) → MapRule m (Some f)
+    → IfSome (refusal_by f) (λ r. MapRules m (Some r))
 refused cancels m f area parts (inl h) = by_levels m (refusal_by f) (of_levels m f h)
 refused cancels m f area parts (inr (levels, inl h)) = by_node m (refusal_by f) levels (of_node m f h)
 refused cancels m f area parts (inr (levels, inr (noded, h))) = by_tiled m (refusal_by f) levels noded

@@ -28,7 +28,8 @@ use Rattle.map_rules.specs.State.{moment_of}
 -- what a change makes of a fact, it makes of it throughout
 pub All-changed : {A : Type 0} (P Q : A → Type 0) (f : A → A) → ((a : A) → P a → Q (f a)) → (xs : List A) → All P xs → All Q (map f xs)
 All-changed P Q f makes [] all = λ k d within. absurd (omega arith)
-All-changed P Q f makes (x ∷ xs) all = All-cons Q (f x) (map f xs) (makes x (all 0 x (omega arith))) (All-changed P Q f makes xs (All-tail P x xs all))
+All-changed P Q f makes (x ∷ xs) all
+    = All-cons Q (f x) (map f xs) (makes x (all 0 x (omega arith))) (All-changed P Q f makes xs (All-tail P x xs all))
 
 same_bytes : (bytes : List ℕ) → bytes_eq bytes bytes ≡ true
 same_bytes bytes = (bytes_eq-Decides bytes bytes).1 refl
@@ -42,7 +43,8 @@ moment_after h moment (l ∷ last) = elim (cases_Bool (bytes_eq l.holder h)) [
 ]
 
 -- that of another holder stays
-pub moment_of_others : (h g : List ℕ) (moment : ℤ) (last : List LastMessage) → g ≢ h → moment_of g (last_after h moment last) ≡ moment_of g last
+pub moment_of_others : (h g : List ℕ) (moment : ℤ) (last : List LastMessage) → g ≢ h
+    → moment_of g (last_after h moment last) ≡ moment_of g last
 moment_of_others h g moment [] d = elim (cases_Bool (bytes_eq h g)) [
   | inl t ↦ absurd (d (sym ((bytes_eq-Decides h g).0 t)))
   | inr t ↦ rw t refl
@@ -72,11 +74,13 @@ lt_true t u h = grind (arith, linear)
 
 pub later_than : (m : ℤ) (o : Option ℤ) → not_later m o ≡ None → IfSome o (λ t. t <ℤ m)
 later_than m None e = tt
-later_than m (Some k) e = by_lt_z k m (λ l. l) (λ l. absurd (both_ways (int_le m k) (failed (int_le m k) (refusal.Stale k) e) (le_true m k l)))
+later_than m (Some k) e
+    = by_lt_z k m (λ l. l) (λ l. absurd (both_ways (int_le m k) (failed (int_le m k) (refusal.Stale k) e) (le_true m k l)))
 
 pub not_before : (m : ℤ) (o : Option ℤ) → earlier m o ≡ None → IfSome o (λ t. t ≤ℤ m)
 not_before m None e = tt
-not_before m (Some k) e = by_lt_z m k (λ l. absurd (both_ways (int_lt m k) (failed (int_lt m k) (refusal.Stale k) e) (lt_true m k l))) (λ l. l)
+not_before m (Some k) e
+    = by_lt_z m k (λ l. absurd (both_ways (int_lt m k) (failed (int_lt m k) (refusal.Stale k) e) (lt_true m k l))) (λ l. l)
 
 module _ (last : List LastMessage) (h : List ℕ) (moment : ℤ) (later : IfSome (moment_of h last) (λ t. t <ℤ moment)) where
   abbrev then : List LastMessage
@@ -85,7 +89,8 @@ module _ (last : List LastMessage) (h : List ℕ) (moment : ℤ) (later : IfSome
   -- what is the holder's own began before
   pub own_earlier : (holder : List ℕ) (since : ℤ) (until : Option ℤ) → IsDated last holder since until → holder ≡ h → since <ℤ moment
   own_earlier holder since until d q =
-      let l : d.moment <ℤ moment = subst (λ (o : Option ℤ). IfSome o (λ t. t <ℤ moment)) (sym (ap (λ (x : List ℕ). moment_of x last) q) ∙ d.is) later in
+      let l : d.moment <ℤ moment
+      = subst (λ (o : Option ℤ). IfSome o (λ t. t <ℤ moment)) (sym (ap (λ (x : List ℕ). moment_of x last) q) ∙ d.is) later in
       omega (arith, linear, l, d.begun)
 
   -- what was dated stays so
@@ -93,7 +98,8 @@ module _ (last : List LastMessage) (h : List ℕ) (moment : ℤ) (later : IfSome
   dated_still holder since until d = elim (cases_Bool (bytes_eq holder h)) [
     | inl t ↦
         let q : holder ≡ h = (bytes_eq-Decides holder h).0 t in
-        let l : d.moment <ℤ moment = subst (λ (o : Option ℤ). IfSome o (λ u. u <ℤ moment)) (sym (ap (λ (x : List ℕ). moment_of x last) q) ∙ d.is) later in record {
+        let l : d.moment <ℤ moment = subst (λ (o : Option ℤ). IfSome o (λ u. u <ℤ moment))
+        (sym (ap (λ (x : List ℕ). moment_of x last) q) ∙ d.is) later in record {
           moment = moment;
           is = ap (λ (x : List ℕ). moment_of x then) q ∙ moment_after h moment last;
           begun = omega (arith, linear, l, d.begun);
@@ -108,13 +114,16 @@ module _ (last : List LastMessage) (h : List ℕ) (moment : ℤ) (later : IfSome
   ]
 
   -- so is what the holder gets then
-  pub dated_own : (holder : List ℕ) (since : ℤ) (until : Option ℤ) → holder ≡ h → since ≤ℤ moment → IfSome until (λ u. u ≤ℤ moment) → IsDated then holder since until
-  dated_own holder since until q l n = record { moment = moment; is = ap (λ (x : List ℕ). moment_of x then) q ∙ moment_after h moment last; begun = l; ended = n }
+  pub dated_own : (holder : List ℕ) (since : ℤ) (until : Option ℤ) → holder ≡ h → since ≤ℤ moment → IfSome until (λ u. u ≤ℤ moment)
+      → IsDated then holder since until
+  dated_own holder since until q l n
+      = record { moment = moment; is = ap (λ (x : List ℕ). moment_of x then) q ∙ moment_after h moment last; begun = l; ended = n }
 
   module _ (areas : List AreaVersion) (dated : All (IsDatedArea last) areas) where
     ended_dated : (a : AreaVersion) → IsDatedArea last a → IsDatedArea then (area_ended h moment a)
     ended_dated a c = elim (until_of h moment a) [
-      | inl q ↦ subst (λ (o : List ℕ). IsDated then o (area_ended h moment a).since (area_ended h moment a).until) (sym (same_holder h moment a))
+      | inl q ↦ subst (λ (o : List ℕ). IsDated then o (area_ended h moment a).since (area_ended h moment a).until)
+          (sym (same_holder h moment a))
           (subst (λ (t : ℤ). IsDated then a.holder t (area_ended h moment a).until) (sym (same_since h moment a))
           (subst (IsDated then a.holder a.since) (sym q) (dated_still a.holder a.since a.until c)))
       | inr r ↦
@@ -130,7 +139,8 @@ module _ (last : List LastMessage) (h : List ℕ) (moment : ℤ) (later : IfSome
     areas_dated_after None = λ k a within. let x = get_or areas k a in dated_still x.holder x.since x.until (dated k a within)
     areas_dated_after (Some shapes) = All-append (IsDatedArea then) (map (area_ended h moment) areas) (new_area h moment shapes ∷ [])
         (All-changed (IsDatedArea last) (IsDatedArea then) (area_ended h moment) ended_dated areas dated)
-        (All-cons (IsDatedArea then) (new_area h moment shapes) [] (dated_own h moment None refl (≤ℤ_refl moment) tt) (λ k a within. absurd (omega arith)))
+        (All-cons (IsDatedArea then) (new_area h moment shapes) [] (dated_own h moment None refl (≤ℤ_refl moment) tt)
+        (λ k a within. absurd (omega arith)))
 
     -- the holder's current area began before
     area_later : IfSome (find (is_area_of h) areas) (λ a. a.since <ℤ moment)
@@ -150,10 +160,13 @@ module _ (last : List LastMessage) (h : List ℕ) (moment : ℤ) (later : IfSome
     book_after (Some shapes) b f k = sound_after areas h moment shapes b k f.later f.newest
 
 -- where neither rule of moments refuses a message, its area block may begin
-pub is_fresh : (last : List LastMessage) (areas : List AreaVersion) (m : Message) → All (IsDatedArea last) areas → stale_message last m ≡ None → stale_area areas m ≡ None
+pub is_fresh : (last : List LastMessage) (areas : List AreaVersion) (m : Message) → All (IsDatedArea last) areas
+    → stale_message last m ≡ None → stale_area areas m ≡ None
     → IfSome m.area (λ shapes. IsFresh areas m.holder m.moment)
 is_fresh last areas m dated e f = by m.area f
   where
-    by : (area : Option (List (List (List Vertex)))) → stale_area areas (record m { area = area }) ≡ None → IfSome area (λ shapes. IsFresh areas m.holder m.moment)
+    by : (area : Option (List (List (List Vertex)))) → stale_area areas (record m { area = area }) ≡ None
+        → IfSome area (λ shapes. IsFresh areas m.holder m.moment)
     by None k = tt
-    by (Some shapes) k = fresh last m.holder m.moment (later_than m.moment (moment_of m.holder last) e) areas dated (not_before m.moment (newest_area areas) k)
+    by (Some shapes) k = fresh last m.holder m.moment (later_than m.moment (moment_of m.holder last) e) areas dated
+        (not_before m.moment (newest_area areas) k)

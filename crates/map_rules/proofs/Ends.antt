@@ -13,7 +13,11 @@ use Rattle.map_rules.proofs.Objects.{parts_are_now}
 use Rattle.map_rules.proofs.Taken.{same_map}
 
 no_area : IsSoundArea []
-no_area = record { sound = λ k d l. absurd (omega (arith, l)); apart = λ i j d l n. absurd (omega (arith, n)); touching = λ i j d l n. absurd (omega (arith, n)) }
+no_area = record {
+  sound = λ k d l. absurd (omega (arith, l));
+  apart = λ i j d l n. absurd (omega (arith, n));
+  touching = λ i j d l n. absurd (omega (arith, n));
+}
 
 pub good_opening : Good opening
 good_opening = record {
@@ -30,11 +34,18 @@ good_opening = record {
   spans = λ k d l. absurd (omega (arith, l));
   dated = λ k d l. absurd (omega (arith, l));
   areas_dated = λ k d l. absurd (omega (arith, l));
-  book = record { sound = λ k d l. absurd (omega (arith, l)); in_turn = λ i j d l n. absurd (omega (arith, n)); spans = λ k d l. absurd (omega (arith, l)); dated = tt };
+  book = record {
+    sound = λ k d l. absurd (omega (arith, l));
+    in_turn = λ i j d l n. absurd (omega (arith, n));
+    spans = λ k d l. absurd (omega (arith, l));
+    dated = tt;
+  };
 }
 
 right_from : (s : State) (h : List ℕ) (t : ℤ) → Good s → IfSome (moment_of h s.last) (λ k. k ≤ℤ t) → IsRightMap (map_now h s)
-right_from s h t g late = subst IsRightMap (same_map (area_at t h s.areas) (area_of h s.areas) (parts_at t h s.versions) (parts_now h s.versions) (area_is_now s.last h t late s.areas g.areas_dated) (parts_are_now s.last h t late s.versions g.dated)) (g.maps t h)
+right_from s h t g late = subst IsRightMap (same_map (area_at t h s.areas) (area_of h s.areas) (parts_at t h s.versions)
+    (parts_now h s.versions) (area_is_now s.last h t late s.areas g.areas_dated) (parts_are_now s.last h t late s.versions g.dated))
+    (g.maps t h)
 
 pub right_now : (s : State) (h : List ℕ) → Good s → IsRightMap (map_now h s)
 right_now s h g = by (moment_of h s.last) refl

@@ -65,7 +65,8 @@ change_right m at was item last (Some v) h =
     (left (not (int_le v.since was && int_le was v.since)) (refusal.Was at v.since) (kind_refusal (header_of m) at item v)
     (left (not (bytes_eq v.holder m.holder)) (refusal.Owner at v.holder) _ h)))
 
-brings_right : (vs : List Version) (m : Message) (at : ℕ) (mutation : Mutation) → mutation_refusal vs (header_of m) at mutation ≡ None → BringsRight mutation
+brings_right : (vs : List Version) (m : Message) (at : ℕ) (mutation : Mutation) → mutation_refusal vs (header_of m) at mutation ≡ None
+    → BringsRight mutation
 brings_right vs m at (Add ident item) h =
     no_fault at (item_fault item) (begin_refusal (header_of m) at item)
     (left (is_some (last_of ident vs)) (refusal.Known at) (item_refusal (header_of m) at item)
@@ -87,7 +88,8 @@ module _ (Q : Item → Type 0) where
   Has v = Q v.item
 
   ended_if-has : (ident : List ℕ) (until : ℤ) (day : Option ℤ) (v : Version) → Has v → Has (ended_if ident until day v)
-  ended_if-has ident until day v h = elim (is_current_of ident v) as (λ (t : Bool). Has (cond t (ended until day v) v)) [ true ↦ h | false ↦ h ]
+  ended_if-has ident until day v h
+      = elim (is_current_of ident v) as (λ (t : Bool). Has (cond t (ended until day v) v)) [ true ↦ h | false ↦ h ]
 
   touched-has : (moment : ℤ) (m : Mutation) (v : Version) → Has v → Has (touched moment m v)
   touched-has moment (Add ident item) v h = h
@@ -100,7 +102,8 @@ module _ (Q : Item → Type 0) where
 
   begun-has : (holder : List ℕ) (moment : ℤ) (ms : List Mutation) → All (Brings Q) ms → All Has (flat_map (begun holder moment) ms)
   begun-has holder moment [] all = λ k d within. absurd (omega arith)
-  begun-has holder moment (Add ident item ∷ ms) all = All-cons Has (new_version holder ident item moment) _ (all 0 (Add ident item) (omega arith))
+  begun-has holder moment (Add ident item ∷ ms) all
+      = All-cons Has (new_version holder ident item moment) _ (all 0 (Add ident item) (omega arith))
       (begun-has holder moment ms (All-tail (Brings Q) (Add ident item) ms all))
   begun-has holder moment (Change ident was item ∷ ms) all = All-cons Has (new_version holder ident item moment) _
       (all 0 (Change ident was item) (omega arith)) (begun-has holder moment ms (All-tail (Brings Q) (Change ident was item) ms all))
@@ -139,14 +142,17 @@ sound_after limits s m old d = record {
 }
   where
     own : length (parts_now m.holder (after s m).versions) ≤ limits.objects
-    own = subst (λ (n : ℕ). n ≤ limits.objects) (sym (length-map (filter (is_object_of m.holder) (after s m).versions) part_of ∙ length-filter (is_object_of m.holder) (after s m).versions))
+    own = subst (λ (n : ℕ). n ≤ limits.objects) (sym (length-map (filter (is_object_of m.holder) (after s m).versions)
+        part_of ∙ length-filter (is_object_of m.holder) (after s m).versions))
         (within limits.objects (count_by (is_object_of m.holder) (after s m).versions) (refusal.Full Objects) d.1.1.1.1.0)
 
     others : (h : List ℕ) → h ≢ m.holder → length (parts_now h (after s m).versions) ≤ limits.objects
-    others h q = subst (λ (x : HolderParts). length x.parts ≤ limits.objects) (sym (others_stay s m old.good (taken s m old.good (passes limits s m old.good d)) h q)) (old.few h)
+    others h q = subst (λ (x : HolderParts). length x.parts ≤ limits.objects)
+        (sym (others_stay s m old.good (taken s m old.good (passes limits s m old.good d)) h q)) (old.few h)
 
     few : (h : List ℕ) → length (parts_now h (after s m).versions) ≤ limits.objects
     few h = elim (cases_Bool (bytes_eq h m.holder)) [
-      | inl t ↦ subst (λ (x : List ℕ). length (parts_now x (after s m).versions) ≤ limits.objects) (sym ((bytes_eq-Decides h m.holder).0 t)) own
+      | inl t ↦ subst (λ (x : List ℕ). length (parts_now x (after s m).versions) ≤ limits.objects) (sym ((bytes_eq-Decides h m.holder).0 t))
+          own
       | inr t ↦ others h (λ q. both_ways (bytes_eq h m.holder) t ((bytes_eq-Decides h m.holder).1 q))
     ]

@@ -21,3 +21,4 @@ pub mod Touching
 pub mod Checked
 pub mod Items
 pub mod Exactly
+pub mod Counting

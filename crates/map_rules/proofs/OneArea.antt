@@ -34,11 +34,13 @@ pub list_equal : (a b : List ℕ) → slice_cmp nat_cmp a b ≡ Equal → a ≡ 
 list_equal = slice_cmp-IsAntisymmetric nat_cmp-IsAntisymmetric
 
 -- two shapes of a sound area keep apart
-pub keep_of : (shapes : List (List (List Vertex))) → IsSoundArea shapes → (i j : ℕ) → i < j → j < length shapes → KeepApart (shape_at shapes i) (shape_at shapes j)
+pub keep_of : (shapes : List (List (List Vertex))) → IsSoundArea shapes → (i j : ℕ) → i < j → j < length shapes
+    → KeepApart (shape_at shapes i) (shape_at shapes j)
 keep_of shapes a i j l n = record { apart = a.apart i j [] l n; touching = a.touching i j [] l n }
 
 -- the shape at a place before the first that is not sound is sound
-sound_before : (shapes : List (List (List Vertex))) (s t : ℕ) (what : ShapeNote) → IsFirstUnsound shapes t what → s < t → IsSoundShape (shape_at shapes s)
+sound_before : (shapes : List (List (List Vertex))) (s t : ℕ) (what : ShapeNote) → IsFirstUnsound shapes t what → s < t
+    → IsSoundShape (shape_at shapes s)
 sound_before shapes s t what first before =
     subst (λ (r : List (List Vertex)). IsSoundShape r) (get_or-take t shapes s [] before)
     (first.before s [] (omega (arith, length-take-le t shapes (omega (arith, first.inside)))))
@@ -54,7 +56,8 @@ one_pair i j k l h n = elim (cases_order i k) [
   | inr o ↦ elim o [ inl b ↦ absurd (h (inl b)) | inr b ↦ absurd (n (inl b)) ]
 ]
 
-module _ (one_note : (rings : List (List Vertex)) (what other : ShapeNote) → IsShapeNote rings what → IsShapeNote rings other → what ≡ other)
+module _
+    (one_note : (rings : List (List Vertex)) (what other : ShapeNote) → IsShapeNote rings what → IsShapeNote rings other → what ≡ other)
     (sound_has_none : (rings : List (List Vertex)) (what : ShapeNote) → IsSoundShape rings → ¬ IsShapeNote rings what)
     (areas : List AreaVersion) (own : List ℕ) (shapes : List (List (List Vertex))) where
   -- where all are sound, none is the first that is not
@@ -65,14 +68,16 @@ module _ (one_note : (rings : List (List Vertex)) (what other : ShapeNote) → I
   not_before s t what other h k before = sound_has_none (shape_at shapes s) what (sound_before shapes s t other k before) h.wrong
 
   -- one shape is the first that is not sound, for one reason
-  pub one_shape : (s t : ℕ) (what other : ShapeNote) → IsFirstUnsound shapes s what → IsFirstUnsound shapes t other → (s ≡ t) × (what ≡ other)
+  pub one_shape : (s t : ℕ) (what other : ShapeNote) → IsFirstUnsound shapes s what → IsFirstUnsound shapes t other
+      → (s ≡ t) × (what ≡ other)
   one_shape s t what other h k =
       let place : s ≡ t = one_place s t (not_before s t what other h k) (not_before t s other what k h) in
       (place, one_note (shape_at shapes t) what other (subst (λ (n : ℕ). IsShapeNote (shape_at shapes n) what) place h.wrong) k.wrong)
 
   -- one pair is the least that does not keep apart
   pub one_first_pair : (i j k l : ℕ) → IsFirstPair shapes i j → IsFirstPair shapes k l → (i ≡ k) × (j ≡ l)
-  one_first_pair i j k l h n = one_pair i j k l (λ b. h.wrong (n.least i j h.before h.inside b)) (λ b. n.wrong (h.least k l n.before n.inside b))
+  one_first_pair i j k l h n
+      = one_pair i j k l (λ b. h.wrong (n.least i j h.before h.inside b)) (λ b. n.wrong (h.least k l n.before n.inside b))
 
   -- one holder is the least whose area is not apart
   pub one_holder : (x y : List ℕ) → IsFirstHolder areas own shapes x → IsFirstHolder areas own shapes y → x ≡ y

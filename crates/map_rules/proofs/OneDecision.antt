@@ -21,7 +21,8 @@ use Rattle.map_rules.proofs.OneArea.{no_area_note, one_area_note}
 use Rattle.map_rules.proofs.OneMap.{one_levels, one_node, one_tiled}
 use Rattle.map_rules.proofs.OneRule.{HasOne, one_is, one_then}
 
-module _ (one_note : (rings : List (List Vertex)) (note other : ShapeNote) → IsShapeNote rings note → IsShapeNote rings other → note ≡ other)
+module _
+    (one_note : (rings : List (List Vertex)) (note other : ShapeNote) → IsShapeNote rings note → IsShapeNote rings other → note ≡ other)
     (sound_has_none : (rings : List (List Vertex)) (note : ShapeNote) → IsSoundShape rings → ¬ IsShapeNote rings note) where
   -- a shape is sound, or refused with one note
   one_sound : (at : ℕ) (rings : List (List Vertex)) → HasOne (SoundRule at rings)
@@ -31,7 +32,8 @@ module _ (one_note : (rings : List (List Vertex)) (note other : ShapeNote) → I
       told None None h k = refl
       told None (Some s) h k = absurd (sound_has_none rings k.0 h k.1)
       told (Some r) None h k = absurd (sound_has_none rings h.0 k h.1)
-      told (Some r) (Some s) h k = ap Some (h.2 ∙ (ap (λ (note : ShapeNote). refusal.Shape at note) (one_note rings h.0 k.0 h.1 k.1) ∙ sym k.2))
+      told (Some r) (Some s) h k
+          = ap Some (h.2 ∙ (ap (λ (note : ShapeNote). refusal.Shape at note) (one_note rings h.0 k.0 h.1 k.1) ∙ sym k.2))
 
   one_shape : (at : ℕ) (m : Mutation) → HasOne (ShapeRule at m)
   one_shape at (Add ident item) = one_sound at item.rings
@@ -58,10 +60,12 @@ module _ (one_note : (rings : List (List Vertex)) (note other : ShapeNote) → I
   unfolding MutationsRule
   one_mutations versions m before [] = one_is None
   one_mutations versions m before (mutation ∷ rest) =
-      one_then (one_is _) (one_then (one_is _) (one_then (one_shape (length before + 1) mutation) (one_mutations versions m (before ++ mutation ∷ []) rest)))
+      one_then (one_is _) (one_then (one_is _)
+      (one_then (one_shape (length before + 1) mutation) (one_mutations versions m (before ++ mutation ∷ []) rest)))
 
   -- a message has one decision: one line a rule
-  pub one_decision : (limits : Limits) (s : State) (m : Message) (a b : Option Refusal) → Decision limits s m a → Decision limits s m b → a ≡ b
+  pub one_decision : (limits : Limits) (s : State) (m : Message) (a b : Option Refusal) → Decision limits s m a → Decision limits s m b
+      → a ≡ b
   unfolding Decision
   one_decision limits s m = (one_then (one_is _)
       (one_then (one_is _)

@@ -86,7 +86,8 @@ fine_one vs m at (Add ident item) e s = (new_ident vs ident (none_some (last_of 
 fine_one vs m at (Alter ident was item) e s = (own_version vs m at was ident (kind_refusal (header_of m) at item) e, s)
 fine_one vs m at (End ident was day) e s = own_version vs m at was ident (end_day_refusal (header_of m) at day) e
 
-pub all_fine : (vs : List Version) (m : Message) (before ms : List Mutation) → MutationsRule vs m before ms None → All (IsFine vs m.holder) ms
+pub all_fine : (vs : List Version) (m : Message) (before ms : List Mutation) → MutationsRule vs m before ms None
+    → All (IsFine vs m.holder) ms
 unfolding MutationsRule
 all_fine vs m before [] h = λ k d l. absurd (omega (arith, l))
 all_fine vs m before (x ∷ ms) h = All-cons (IsFine vs m.holder) x ms (fine_one vs m (length before + 1) x (sym h.1.0) h.1.1.0)
@@ -111,7 +112,8 @@ last_one : (xs : List Mutation) (x : Mutation) → Contains (xs ++ x ∷ []) x
 last_one [] x = contains_head x []
 last_one (z ∷ xs) x = contains_tail z x (xs ++ x ∷ []) (last_one xs x)
 
-apart_from : (vs : List Version) (m : Message) (before ms : List Mutation) → MutationsRule vs m before ms None → (y x : Mutation) → Contains before y
+apart_from : (vs : List Version) (m : Message) (before ms : List Mutation) → MutationsRule vs m before ms None → (y x : Mutation)
+    → Contains before y
     → Contains ms x → Differ y x
 unfolding MutationsRule
 apart_from vs m before [] h y x cy cx = absurd (omega (arith, cx.1))
@@ -124,4 +126,5 @@ pub all_once : (vs : List Version) (m : Message) (before ms : List Mutation) →
 unfolding MutationsRule
 all_once vs m before [] h = λ i j d l n. absurd (omega (arith, n))
 all_once vs m before (x ∷ ms) h = AllPairs-cons Differ x ms
-    (all_from (Differ x) ms (λ y c. apart_from vs m (before ++ x ∷ []) ms h.1.1.1 x y (last_one before x) c)) (all_once vs m (before ++ x ∷ []) ms h.1.1.1)
+    (all_from (Differ x) ms (λ y c. apart_from vs m (before ++ x ∷ []) ms h.1.1.1 x y (last_one before x) c))
+    (all_once vs m (before ++ x ∷ []) ms h.1.1.1)

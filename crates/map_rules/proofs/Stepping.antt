@@ -32,11 +32,13 @@ use Rattle.map_rules.proofs.RightChange.{right_change}
 use Rattle.map_rules.proofs.Ruled.{all_fine, all_once}
 use Rattle.map_rules.proofs.Taken.{after_good, same_map, shapes_then}
 
-area_fine : (areas : List AreaVersion) (m : Message) (area : Option (List (List (List Vertex)))) → AreaPasses areas m area → IsFineArea areas m.holder m.moment area
+area_fine : (areas : List AreaVersion) (m : Message) (area : Option (List (List (List Vertex)))) → AreaPasses areas m area
+    → IsFineArea areas m.holder m.moment area
 area_fine areas m None a = tt
 area_fine areas m (Some shapes) a = (not_before m.moment (newest_area areas) a.0, a.1)
 
-area_sound : (areas : List AreaVersion) (m : Message) (area : Option (List (List (List Vertex)))) → AreaPasses areas m area → IsSoundArea (area_of m.holder areas) → IsSoundArea (unwrap_or area (area_of m.holder areas))
+area_sound : (areas : List AreaVersion) (m : Message) (area : Option (List (List (List Vertex)))) → AreaPasses areas m area
+    → IsSoundArea (area_of m.holder areas) → IsSoundArea (unwrap_or area (area_of m.holder areas))
 area_sound areas m None a s = s
 area_sound areas m (Some shapes) a s = a.1.sound
 
@@ -51,7 +53,9 @@ taken s m g p = record {
     levels = p.map.0;
     noded = p.map.1.0;
     cancels = p.map.1.1;
-    tiled = cancel-tiled (area_of m.holder (after s m).areas) (ground_of (parts_now m.holder (after s m).versions)) area (ground_sound (is_object_of m.holder) (after s m).versions (shapes_then s m g fine)) p.map.1.1;
+    tiled
+        = cancel-tiled (area_of m.holder (after s m).areas) (ground_of (parts_now m.holder (after s m).versions)) area
+        (ground_sound (is_object_of m.holder) (after s m).versions (shapes_then s m g fine)) p.map.1.1;
   };
 }
   where
@@ -59,13 +63,15 @@ taken s m g p = record {
     fine = all_fine s.versions m [] m.mutations p.mutations
 
     area : IsSoundArea (area_of m.holder (after s m).areas)
-    area = subst IsSoundArea (sym (area_then m.holder m.moment m.area s.areas)) (area_sound s.areas m m.area p.area (right_now s m.holder g).area)
+    area = subst IsSoundArea (sym (area_then m.holder m.moment m.area s.areas))
+        (area_sound s.areas m m.area p.area (right_now s m.holder g).area)
 
 pub passed_good : (s : State) (m : Message) → Good s → Passes s m → Good (after s m)
 passed_good s m g p = after_good s m g (taken s m g p)
 
 -- ---- by the decision
-area_passes : (areas : List AreaVersion) (m : Message) (area : Option (List (List (List Vertex)))) → None ≡ stale_area areas (record m { area = area })
+area_passes : (areas : List AreaVersion) (m : Message) (area : Option (List (List (List Vertex))))
+    → None ≡ stale_area areas (record m { area = area })
     → AreaRule areas m.holder area None → AreaPasses areas m area
 area_passes areas m None e k = tt
 area_passes areas m (Some shapes) e k = (sym e, k)
@@ -90,7 +96,10 @@ passes limits s m g d = record {
   fresh = sym d.0;
   mutations = mutations;
   area = area;
-  map = (d.1.1.1.1.1.1.0, (d.1.1.1.1.1.1.1.0, tiled-cancel new.area (ground_of new.parts) sound.0 sound.1 d.1.1.1.1.1.1.1.0 d.1.1.1.1.1.1.1.1));
+  map = (
+    d.1.1.1.1.1.1.0,
+    (d.1.1.1.1.1.1.1.0, tiled-cancel new.area (ground_of new.parts) sound.0 sound.1 d.1.1.1.1.1.1.1.0 d.1.1.1.1.1.1.1.1),
+  );
 }
   where
     new : HolderParts
@@ -110,7 +119,8 @@ step_good limits s m g d = passed_good s m g (passes limits s m g d)
 
 -- ---- a run
 -- a text keeps all right, and so do texts one after another
-pub text_good : (limits : Limits) (s : State) (text : List ℕ) (answer : Answer) (t : State) → Good s → AnswersText limits s text answer t → Good t
+pub text_good : (limits : Limits) (s : State) (text : List ℕ) (answer : Answer) (t : State) → Good s → AnswersText limits s text answer t
+    → Good t
 text_good limits s text answer t g (inl r) = subst Good (sym r.same) g
 text_good limits s text answer t g (inr k) = by answer k.step
   where
@@ -118,12 +128,14 @@ text_good limits s text answer t g (inr k) = by answer k.step
     by Taken d = subst Good (sym d.1) (step_good limits s k.message g d.0)
     by (Refused r) d = subst Good (sym d.1) g
 
-pub run_good : (limits : Limits) (s : State) (texts : List (List ℕ)) (answers : List Answer) (t : State) → Good s → Run limits s texts answers t → Good t
+pub run_good : (limits : Limits) (s : State) (texts : List (List ℕ)) (answers : List Answer) (t : State) → Good s
+    → Run limits s texts answers t → Good t
 unfolding Run
 run_good limits s [] [] t g r = subst Good (sym r) g
 run_good limits s [] (answer ∷ answers) t g r = absurd r
 run_good limits s (text ∷ texts) [] t g r = absurd r
-run_good limits s (text ∷ texts) (answer ∷ answers) t g r = run_good limits r.0 texts answers t (text_good limits s text answer r.0 g r.1) r.2
+run_good limits s (text ∷ texts) (answer ∷ answers) t g r
+    = run_good limits r.0 texts answers t (text_good limits s text answer r.0 g r.1) r.2
 
 -- ---- the other holders
 -- from a holder's last moment on, what it has is what it has now
@@ -137,10 +149,12 @@ others_stay s m g k h d = by (moment_of h s.last) refl
   where
     at : (t : ℤ) → IfSome (moment_of h s.last) (λ u. u ≤ℤ t) → map_now h (after s m) ≡ map_now h s
     at t late =
-        let then : IfSome (moment_of h (after s m).last) (λ u. u ≤ℤ t) = subst (λ (o : Option ℤ). IfSome o (λ u. u ≤ℤ t)) (sym (moment_of_others m.holder h m.moment s.last d)) late in
+        let then : IfSome (moment_of h (after s m).last) (λ u. u ≤ℤ t)
+        = subst (λ (o : Option ℤ). IfSome o (λ u. u ≤ℤ t)) (sym (moment_of_others m.holder h m.moment s.last d)) late in
         sym (late_now (after s m) h t (after_good s m g k) then)
         ∙ (same_map (area_at t h (after s m).areas) (area_at t h s.areas) (parts_at t h (after s m).versions) (parts_at t h s.versions)
-        (areas_of_others m.holder m.moment t h m.area s.areas d) (parts_of_others s.versions m.holder m.moment m.mutations g.in_turn k.fine t h d)
+        (areas_of_others m.holder m.moment t h m.area s.areas d)
+        (parts_of_others s.versions m.holder m.moment m.mutations g.in_turn k.fine t h d)
         ∙ late_now s h t g late)
 
     by : (o : Option ℤ) → moment_of h s.last ≡ o → map_now h (after s m) ≡ map_now h s
@@ -148,7 +162,8 @@ others_stay s m g k h d = by (moment_of h s.last) refl
     by (Some t) q = at t (subst (λ (o : Option ℤ). IfSome o (λ u. u ≤ℤ t)) (sym q) (≤ℤ_refl t))
 
 -- the change of a message that the rules of moments, mutations and areas let pass
-pub change_right : (s : State) (m : Message) → Good s → stale_message s.last m ≡ None → stale_area s.areas m ≡ None → MutationsRule s.versions m [] m.mutations None
+pub change_right : (s : State) (m : Message) → Good s → stale_message s.last m ≡ None → stale_area s.areas m ≡ None
+    → MutationsRule s.versions m [] m.mutations None
     → AreaRule s.areas m.holder m.area None → length (parts_now m.holder s.versions) + length (change_of m).coming < 2 ^ 32
     → IsRightChange (map_now m.holder s) (change_of m)
 change_right s m g fresh early mutations area few =

@@ -49,7 +49,8 @@ none_of : (u : Option ℤ) → is_none u ≡ true → u ≡ None
 none_of None h = refl
 none_of (Some t) h = absurd (both_ways false refl h)
 
-by_ending : (moment : ℤ) (ms : List Mutation) (x : Mutation) (i : List ℕ) (day : Option ℤ) (v : Version) → IsEnding x i → is_current_of i v ≡ true → IsEnded moment (x ∷ ms) v (ended moment day v)
+by_ending : (moment : ℤ) (ms : List Mutation) (x : Mutation) (i : List ℕ) (day : Option ℤ) (v : Version) → IsEnding x i
+    → is_current_of i v ≡ true → IsEnded moment (x ∷ ms) v (ended moment day v)
 by_ending moment ms x i day v e t = let k = and_parts (has_ident i v) (is_none v.until) t in record {
   was = none_of v.until k.1;
   now = refl;
@@ -62,26 +63,41 @@ by_ending moment ms x i day v e t = let k = and_parts (has_ident i v) (is_none v
   since = refl;
 }
 
-by_one : (moment : ℤ) (ms : List Mutation) (x : Mutation) (v : Version) → (touched moment x v ≡ v) ⊎ IsEnded moment (x ∷ ms) v (touched moment x v)
+by_one : (moment : ℤ) (ms : List Mutation) (x : Mutation) (v : Version)
+    → (touched moment x v ≡ v) ⊎ IsEnded moment (x ∷ ms) v (touched moment x v)
 by_one moment ms (Add i item) v = inl refl
 by_one moment ms (Change i was item) v = elim (cases_Bool (is_current_of i v)) [
-  | inl t ↦ inr (subst (λ (b : Bool). IsEnded moment (Change i was item ∷ ms) v (cond b (ended moment None v) v)) (sym t) (by_ending moment ms (Change i was item) i None v refl t))
+  | inl t ↦ inr (subst (λ (b : Bool). IsEnded moment (Change i was item ∷ ms) v (cond b (ended moment None v) v)) (sym t)
+      (by_ending moment ms (Change i was item) i None v refl t))
   | inr t ↦ inl (ap (λ (b : Bool). cond b (ended moment None v) v) t)
 ]
 by_one moment ms (End i was day) v = elim (cases_Bool (is_current_of i v)) [
-  | inl t ↦ inr (subst (λ (b : Bool). IsEnded moment (End i was day ∷ ms) v (cond b (ended moment (Some day) v) v)) (sym t) (by_ending moment ms (End i was day) i (Some day) v refl t))
+  | inl t ↦ inr (subst (λ (b : Bool). IsEnded moment (End i was day ∷ ms) v (cond b (ended moment (Some day) v) v)) (sym t)
+      (by_ending moment ms (End i was day) i (Some day) v refl t))
   | inr t ↦ inl (ap (λ (b : Bool). cond b (ended moment (Some day) v) v) t)
 ]
 
 wider : (moment : ℤ) (ms : List Mutation) (x : Mutation) (v w : Version) → IsEnded moment ms v w → IsEnded moment (x ∷ ms) v w
-wider moment ms x v w e = record { was = e.was; now = e.now; by = e.by; of = contains_tail x e.by ms e.of; ends = e.ends; holder = e.holder; ident = e.ident; item = e.item; since = e.since }
+wider moment ms x v w e = record {
+  was = e.was;
+  now = e.now;
+  by = e.by;
+  of = contains_tail x e.by ms e.of;
+  ends = e.ends;
+  holder = e.holder;
+  ident = e.ident;
+  item = e.item;
+  since = e.since;
+}
 
-pub touch_cases : (moment : ℤ) (ms : List Mutation) (v : Version) → (touched_by moment ms v ≡ v) ⊎ IsEnded moment ms v (touched_by moment ms v)
+pub touch_cases : (moment : ℤ) (ms : List Mutation) (v : Version)
+    → (touched_by moment ms v ≡ v) ⊎ IsEnded moment ms v (touched_by moment ms v)
 touch_cases moment [] v = inl refl
 touch_cases moment (x ∷ ms) v = elim (by_one moment ms x v) [
   | inl q ↦ elim (touch_cases moment ms v) [
     | inl r ↦ inl (ap (λ (w : Version). touched_by moment ms w) q ∙ r)
-    | inr e ↦ inr (subst (λ (w : Version). IsEnded moment (x ∷ ms) v (touched_by moment ms w)) (sym q) (wider moment ms x v (touched_by moment ms v) e))
+    | inr e ↦ inr (subst (λ (w : Version). IsEnded moment (x ∷ ms) v (touched_by moment ms w)) (sym q)
+        (wider moment ms x v (touched_by moment ms v) e))
   ]
   | inr e ↦ inr (subst (IsEnded moment (x ∷ ms) v) (sym (stays moment ms (touched moment x v) moment e.now)) e)
 ]
@@ -89,15 +105,19 @@ touch_cases moment (x ∷ ms) v = elim (by_one moment ms x v) [
 -- a mutation that names the current version ends it
 ends_now : (moment : ℤ) (x : Mutation) (v : Version) → v.until ≡ None → IsEnding x v.ident → (touched moment x v).until ≡ Some moment
 ends_now moment (Add i item) v u e = absurd e
-ends_now moment (Change i was item) v u e = ap (λ (b : Bool). (cond b (ended moment None v) v).until) (and_from (has_ident i v) (is_none v.until) ((bytes_eq-Decides v.ident i).1 (sym e)) (ap is_none u))
-ends_now moment (End i was day) v u e = ap (λ (b : Bool). (cond b (ended moment (Some day) v) v).until) (and_from (has_ident i v) (is_none v.until) ((bytes_eq-Decides v.ident i).1 (sym e)) (ap is_none u))
+ends_now moment (Change i was item) v u e = ap (λ (b : Bool). (cond b (ended moment None v) v).until)
+    (and_from (has_ident i v) (is_none v.until) ((bytes_eq-Decides v.ident i).1 (sym e)) (ap is_none u))
+ends_now moment (End i was day) v u e = ap (λ (b : Bool). (cond b (ended moment (Some day) v) v).until)
+    (and_from (has_ident i v) (is_none v.until) ((bytes_eq-Decides v.ident i).1 (sym e)) (ap is_none u))
 
-pub ends_named : (moment : ℤ) (ms : List Mutation) (x : Mutation) (v : Version) → Contains ms x → v.until ≡ None → IsEnding x v.ident → (touched_by moment ms v).until ≡ Some moment
+pub ends_named : (moment : ℤ) (ms : List Mutation) (x : Mutation) (v : Version) → Contains ms x → v.until ≡ None → IsEnding x v.ident
+    → (touched_by moment ms v).until ≡ Some moment
 ends_named moment [] x v c u e = absurd (omega (arith, c.1))
 ends_named moment (y ∷ ms) x v c u e = elim (by_one moment ms y v) [
   | inr k ↦ ap (λ (w : Version). w.until) (stays moment ms (touched moment y v) moment k.now) ∙ k.now
   | inl q ↦ elim (contains_cases y x ms c) [
-    | inl r ↦ let n : (touched moment y v).until ≡ Some moment = ends_now moment y v u (subst (λ z. IsEnding z v.ident) (sym r) e) in ap (λ (w : Version). w.until) (stays moment ms (touched moment y v) moment n) ∙ n
+    | inl r ↦ let n : (touched moment y v).until ≡ Some moment = ends_now moment y v u (subst (λ z. IsEnding z v.ident) (sym r) e)
+        in ap (λ (w : Version). w.until) (stays moment ms (touched moment y v) moment n) ∙ n
     | inr d ↦ ap (λ (w : Version). (touched_by moment ms w).until) q ∙ ends_named moment ms x v d u e
   ]
 ]
@@ -120,4 +140,5 @@ part ident item = record { ident = ident; kind = item.kind; level = item.level; 
 
 pub touched-part : (moment : ℤ) (ms : List Mutation) (v : Version) → part_of (touched_by moment ms v) ≡ part_of v
 unfolding part
-touched-part moment ms v = ap (λ (i : List ℕ). part i (touched_by moment ms v).item) (touched-ident moment ms v) ∙ ap (λ (x : Item). part v.ident x) (touched-item moment ms v)
+touched-part moment ms v = ap (λ (i : List ℕ). part i (touched_by moment ms v).item)
+    (touched-ident moment ms v) ∙ ap (λ (x : Item). part v.ident x) (touched-item moment ms v)

@@ -42,7 +42,8 @@ areas_after holder moment (Some shapes) areas = areas_with holder moment shapes 
 -- the moment becomes that of the holder's last message
 abbrev pub last_after : List ℕ → ℤ → List LastMessage → List LastMessage
 last_after holder moment [] = record { holder = holder; moment = moment } ∷ []
-last_after holder moment (l ∷ last) = if bytes_eq l.holder holder then record l { moment = moment } ∷ last else l ∷ last_after holder moment last
+last_after holder moment (l ∷ last)
+    = if bytes_eq l.holder holder then record l { moment = moment } ∷ last else l ∷ last_after holder moment last
 
 -- the state that a message leaves where it is taken
 abbrev pub after : State → Message → State

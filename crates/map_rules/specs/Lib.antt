@@ -11,3 +11,4 @@ pub mod Changes
 pub mod Good
 pub mod Passing
 pub mod Tiled
+pub mod Costs

@@ -92,7 +92,8 @@ item_refusal header at item = option_or (option_map (refusal.Item at) (item_faul
 
 -- the kind is not the kept version's, or the item is wrong
 abbrev pub kind_refusal : Header → ℕ → Item → Version → Option Refusal
-kind_refusal header at item v = when (not (bytes_eq (word_of item.kind) (word_of v.item.kind))) (refusal.Kind at v.item.kind) (item_refusal header at item)
+kind_refusal header at item v
+    = when (not (bytes_eq (word_of item.kind) (word_of v.item.kind))) (refusal.Kind at v.item.kind) (item_refusal header at item)
 
 -- the end day is earlier than the kept begin day, or later than the day of the message
 abbrev pub end_day_refusal : Header → ℕ → ℤ → Version → Option Refusal
@@ -104,9 +105,11 @@ mutation_refusal versions header at (Add ident item) =
     when (not (bytes_eq (holder_of ident) header.holder)) (refusal.Prefix at)
     (when (is_some (last_of ident versions)) (refusal.Known at)
     (item_refusal header at item))
-mutation_refusal versions header at (Change ident was item) = change_refusal header at was (kind_refusal header at item) (last_of ident versions)
+mutation_refusal versions header at (Change ident was item)
+    = change_refusal header at was (kind_refusal header at item) (last_of ident versions)
     (current_of ident versions)
-mutation_refusal versions header at (End ident was day) = change_refusal header at was (end_day_refusal header at day) (last_of ident versions)
+mutation_refusal versions header at (End ident was day)
+    = change_refusal header at was (end_day_refusal header at day) (last_of ident versions)
     (current_of ident versions)
 
 -- the shape of these rings is sound, or the mutation at this place is refused with its note
@@ -156,7 +159,8 @@ pub record IsFresh (areas : List AreaVersion) (holder : List ℕ) (moment : ℤ)
 -- the least border edge is named that occurs twice or whose reverse does not occur
 abbrev pub TiledRule : HolderParts → Rule Refusal
 TiledRule map None = IsTiled map.area (ground_of map.parts)
-TiledRule map (Some r) = ¬ IsTiled map.area (ground_of map.parts) × (e : Segment) × IsLeast segment_cmp (IsUncancelled (edges_of map)) e × (r ≡ refusal.Tiled e)
+TiledRule map (Some r) = ¬ IsTiled map.area (ground_of map.parts) × (e : Segment) × IsLeast segment_cmp (IsUncancelled (edges_of map)) e
+    × (r ≡ refusal.Tiled e)
 
 -- the rules of a holder's new map: levels, shared vertices, the tiling
 abbrev pub MapRules : HolderParts → Rule Refusal

@@ -43,5 +43,6 @@ AnswersText limits old text answer new = RefusesText limits old text answer new 
 -- from old, the register answers these texts so, one after another, and goes on to new
 unfoldable pub Run : Limits → State → List (List ℕ) → List Answer → State → Type 0
 Run limits old [] [] new = new ≡ old
-Run limits old (text ∷ texts) (answer ∷ answers) new = (mid : State) × AnswersText limits old text answer mid × Run limits mid texts answers new
+Run limits old (text ∷ texts) (answer ∷ answers) new
+    = (mid : State) × AnswersText limits old text answer mid × Run limits mid texts answers new
 Run limits old _ _ new = ⊥

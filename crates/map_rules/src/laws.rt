@@ -74,6 +74,12 @@ pub fn change_makes_after()
     ensures { (s : State) (m : Message) → map_now m.holder (after s m) ≡ changed (change_of m) (map_now m.holder s) }
 {}
 
+/// So many objects the holder of a message has once its mutations are applied: those that it had and those that come, less those that leave.
+pub fn objects_are_counted()
+    ensures { (s : State) (m : Message) → Good s → MutationsRule s.versions m [] m.mutations None
+        → length (parts_now m.holder (after s m).versions) + length (change_of m).leaving ≡ length (parts_now m.holder s.versions) + length (change_of m).coming }
+{}
+
 /// A message leaves the current map of each other holder.
 pub fn others_stay()
     ensures { (limits : Limits) (s : State) (m : Message) (holder : List ℕ) → Good s → Decision limits s m None → holder ≢ m.holder → map_now holder (after s m) ≡ map_now holder s }

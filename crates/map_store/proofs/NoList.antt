@@ -23,13 +23,17 @@ use Rattle.map_store.proofs.Starting.{not_spoilt}
 pub not_no_journal : (file : List ℕ) (limits : Limits) (ms : List Message) (s : State) → IsNoJournal file → Stands limits file ms s → ⊥
 not_no_journal file limits ms s bad h = ⊎_elim
     (λ (few : (length file ≤ 9) × (h.payloads ≡ [])). omega (arith, few.0, bad.long))
-    (λ (long : (9 < length file) × (gates : List ℕ) × (file ≡ mark ++ gates) × Opens gates h.payloads). bad.other (ap (take 8) long.2 ∙ take_at mark long.1 8 length-mark))
+    (λ (long : (9 < length file) × (gates : List ℕ) × (file ≡ mark ++ gates) × Opens gates h.payloads). bad.other
+    (ap (take 8) long.2 ∙ take_at mark long.1 8 length-mark))
     h.gates
 
-module _ (one_reading : (limits : Limits) (text : List ℕ) (a b : Result Message TextFault) → Reads limits text a → Reads limits text b → a ≡ b)
-    (one_decision : (limits : Limits) (s : State) (m : Message) (a b : Option Refusal) → Decision limits s m a → Decision limits s m b → a ≡ b) (limits : Limits) where
+module _
+    (one_reading : (limits : Limits) (text : List ℕ) (a b : Result Message TextFault) → Reads limits text a → Reads limits text b → a ≡ b)
+    (one_decision : (limits : Limits) (s : State) (m : Message) (a b : Option Refusal) → Decision limits s m a → Decision limits s m b
+    → a ≡ b) (limits : Limits) where
   -- what is left of the messages behind those that were read
-  rest_of : (a b c : State) (ps qs : List (List ℕ)) (ms ns : List Message) → Holds limits a (ps ++ qs) ms c → Holds limits a ps ns b → (more : List Message) × Holds limits b qs more c
+  rest_of : (a b c : State) (ps qs : List (List ℕ)) (ms ns : List Message) → Holds limits a (ps ++ qs) ms c → Holds limits a ps ns b
+      → (more : List Message) × Holds limits b qs more c
   unfolding Holds
   rest_of a b c [] qs ms [] h k = (ms, subst (λ (x : State). Holds limits x qs ms c) (sym k) h)
   rest_of a b c [] qs ms (n ∷ ns) h k = absurd k
@@ -41,7 +45,8 @@ module _ (one_reading : (limits : Limits) (text : List ℕ) (a b : Result Messag
       rest_of k.0 b c ps qs ms ns (subst (λ (x : State). Holds limits x (ps ++ qs) ms c) mids h.2) k.2
 
   -- the next payload is no bad one
-  not_bad : (a b : State) (q p : List ℕ) (qs : List (List ℕ)) (ms : List Message) → q ≡ p → Holds limits a (q ∷ qs) ms b → IsBad limits a p → ⊥
+  not_bad : (a b : State) (q p : List ℕ) (qs : List (List ℕ)) (ms : List Message) → q ≡ p → Holds limits a (q ∷ qs) ms b → IsBad limits a p
+      → ⊥
   unfolding Holds
   not_bad a b q p qs [] same h bad = absurd h
   not_bad a b q p qs (m ∷ ms) same (mid, next, rest) bad =
@@ -51,7 +56,8 @@ module _ (one_reading : (limits : Limits) (text : List ℕ) (a b : Result Messag
       (λ (x : (o : Message) × Reads limits p (Ok o) × ((¬ IsCanonical p o) ⊎ ((r : Refusal) × Decision limits a o (Some r)))).
       let is : m ≡ x.0 = ap (of_ok m) (one_reading limits p (Ok m) (Ok x.0) n.read x.1) in
       ⊎_elim (λ (not : ¬ IsCanonical p x.0). not (subst (IsCanonical p) is n.canonical))
-      (λ (r : (r : Refusal) × Decision limits a x.0 (Some r)). let e = one_decision limits a m None (Some r.0) n.step.0 (subst (λ (o : Message). Decision limits a o (Some r.0)) (sym is) r.1) in cc) x.2)
+      (λ (r : (r : Refusal) × Decision limits a x.0 (Some r)). let e = one_decision limits a m None (Some r.0) n.step.0
+      (subst (λ (o : Message). Decision limits a o (Some r.0)) (sym is) r.1) in cc) x.2)
       bad
 
   -- nor is a gate before its record
@@ -81,10 +87,14 @@ module _ (one_reading : (limits : Limits) (text : List ℕ) (a b : Result Messag
       by_case (inl few) = not_spoilt limits gate (subst (λ (f : List ℕ). IsSpoiltAt limits f gate) (x.behind.fresh few.0) x)
       by_case (inr (long, gates, e, opens)) =
           let b = x.behind in
-          let same : records x.payloads ++ b.rest ≡ gates = sym (drop_at mark (records x.payloads ++ b.rest) 8 length-mark) ∙ ap (drop 8) (sym (append_assoc mark (records x.payloads) b.rest) ∙ sym b.bytes ∙ e) ∙ drop_at mark gates 8 length-mark in
-          let behind = opens_behind x.payloads h.payloads b.rest b.sizes (subst (λ (l : List ℕ). Opens l h.payloads) (sym same) opens) b.some in
+          let same : records x.payloads ++ b.rest ≡ gates
+          = sym (drop_at mark (records x.payloads ++ b.rest) 8 length-mark) ∙ ap (drop 8)
+          (sym (append_assoc mark (records x.payloads) b.rest) ∙ sym b.bytes ∙ e) ∙ drop_at mark gates 8 length-mark in
+          let behind
+          = opens_behind x.payloads h.payloads b.rest b.sizes (subst (λ (l : List ℕ). Opens l h.payloads) (sym same) opens) b.some in
           let there : drop gate file ≡ b.rest = ap (drop gate) b.bytes ∙ drop_at (mark ++ records x.payloads) b.rest gate (sym b.place) in
-          let left = rest_of opening x.state s x.payloads behind.0 ms x.messages (subst (λ (l : List (List ℕ)). Holds limits opening l ms s) behind.1 h.holds) x.holds in
+          let left = rest_of opening x.state s x.payloads behind.0 ms x.messages
+          (subst (λ (l : List (List ℕ)). Holds limits opening l ms s) behind.1 h.holds) x.holds in
           right file gate b.rest behind.0 left.0 x.state s there behind.2 left.1 x.bad
 
   -- behind a front of the file, this is the record at its end
@@ -96,7 +106,8 @@ module _ (one_reading : (limits : Limits) (text : List ℕ) (a b : Result Messag
   -- of two bad gates neither comes first
   same_gate : (file front : List ℕ) (ps qs : List (List ℕ)) (ms ns : List Message) (a s t : State) (x y : List ℕ) (gate other : ℕ)
       → file ≡ front ++ (records ps ++ x) → file ≡ front ++ (records qs ++ y) → AreShort ps → AreShort qs → 0 < length x → 0 < length y
-      → gate ≡ length front + length (records ps) → other ≡ length front + length (records qs) → Holds limits a ps ms s → Holds limits a qs ns t
+      → gate ≡ length front + length (records ps) → other ≡ length front + length (records qs) → Holds limits a ps ms s
+      → Holds limits a qs ns t
       → IsDamagedAt file gate ⊎ ((payload : List ℕ) × HasRecordAt file gate payload × IsBad limits s payload)
       → IsDamagedAt file other ⊎ ((payload : List ℕ) × HasRecordAt file other payload × IsBad limits t payload) → gate ≡ other
   unfolding Holds
@@ -110,18 +121,24 @@ module _ (one_reading : (limits : Limits) (text : List ℕ) (a b : Result Messag
       let here : other ≡ length front = omega (arith, o) in
       let some : 0 < length (records ps ++ x) = omega (arith, sx, length-append (records ps) x) in
       absurd (right_here file other p (records ps ++ x) ps ms a s ss.0 (record_there file front p x ps other is here) some h
-      (subst (λ (z : State). IsDamagedAt file other ⊎ ((payload : List ℕ) × HasRecordAt file other payload × IsBad limits z payload)) k bad'))
+      (subst (λ (z : State). IsDamagedAt file other ⊎ ((payload : List ℕ) × HasRecordAt file other payload × IsBad limits z payload)) k
+      bad'))
   same_gate file front (p ∷ ps) (q ∷ qs) (m ∷ ms) (n ∷ ns) a s t x y gate other is js ss ts sx sy g o h k bad bad' =
       let one = sym (record_there file front p x ps (length front) is refl) ∙ record_there file front q y qs (length front) js refl in
-      let same = one_payload p q (records ps ++ x) (records qs ++ y) ss.0 ts.0 (tail_of 1 1 (frame p ++ (records ps ++ x)) (frame q ++ (records qs ++ y)) one) in
-      let read : m ≡ n = ap (of_ok m) (one_reading limits p (Ok m) (Ok n) h.1.read (subst (λ (l : List ℕ). Reads limits l (Ok n)) (sym same.0) k.1.read)) in
+      let same = one_payload p q (records ps ++ x) (records qs ++ y) ss.0 ts.0
+      (tail_of 1 1 (frame p ++ (records ps ++ x)) (frame q ++ (records qs ++ y)) one) in
+      let read : m ≡ n = ap (of_ok m)
+      (one_reading limits p (Ok m) (Ok n) h.1.read (subst (λ (l : List ℕ). Reads limits l (Ok n)) (sym same.0) k.1.read)) in
       let mids : h.0 ≡ k.0 = h.1.step.1 ∙ ap (after a) read ∙ sym k.1.step.1 in
       let now : file ≡ (front ++ (1 ∷ frame p)) ++ (records ps ++ x) =
-      is ∙ ap (λ (l : List ℕ). front ++ l) (append_assoc (1 ∷ frame p) (records ps) x) ∙ sym (append_assoc front (1 ∷ frame p) (records ps ++ x)) in
+      is ∙ ap (λ (l : List ℕ). front ++ l)
+      (append_assoc (1 ∷ frame p) (records ps) x) ∙ sym (append_assoc front (1 ∷ frame p) (records ps ++ x)) in
       let long = length-append front (1 ∷ frame p) in
       let size : length (frame p) ≡ length (frame q) = ap (λ (l : List ℕ). length (frame l)) same.0 in
-      same_gate file (front ++ (1 ∷ frame p)) ps qs ms ns k.0 s t x y gate other now (now ∙ ap (λ (l : List ℕ). (front ++ (1 ∷ frame p)) ++ l) same.1)
-      ss.1 ts.1 sx sy (omega (arith, g, long, length-append (1 ∷ frame p) (records ps))) (omega (arith, o, long, size, length-append (1 ∷ frame q) (records qs)))
+      same_gate file (front ++ (1 ∷ frame p)) ps qs ms ns k.0 s t x y gate other now
+      (now ∙ ap (λ (l : List ℕ). (front ++ (1 ∷ frame p)) ++ l) same.1)
+      ss.1 ts.1 sx sy (omega (arith, g, long, length-append (1 ∷ frame p) (records ps)))
+      (omega (arith, o, long, size, length-append (1 ∷ frame q) (records qs)))
       (subst (λ (z : State). Holds limits z ps ms s) mids h.2) k.2 bad bad'
   same_gate file front [] (q ∷ qs) (m ∷ ms) ns a s t x y gate other is js ss ts sx sy g o h k bad bad' = absurd h
   same_gate file front (p ∷ ps) [] ms (n ∷ ns) a s t x y gate other is js ss ts sx sy g o h k bad bad' = absurd k
@@ -133,11 +150,14 @@ module _ (one_reading : (limits : Limits) (text : List ℕ) (a b : Result Messag
       let b = x.behind in
       let c = y.behind in
       same_gate file mark x.payloads y.payloads x.messages y.messages opening x.state y.state b.rest c.rest gate other
-      (b.bytes ∙ append_assoc mark (records x.payloads) b.rest) (c.bytes ∙ append_assoc mark (records y.payloads) c.rest) b.sizes c.sizes b.some c.some
-      (omega (arith, b.place, length-append mark (records x.payloads))) (omega (arith, c.place, length-append mark (records y.payloads))) x.holds y.holds x.bad y.bad
+      (b.bytes ∙ append_assoc mark (records x.payloads) b.rest) (c.bytes ∙ append_assoc mark (records y.payloads) c.rest) b.sizes c.sizes
+      b.some c.some
+      (omega (arith, b.place, length-append mark (records x.payloads))) (omega (arith, c.place, length-append mark (records y.payloads)))
+      x.holds y.holds x.bad y.bad
 
 -- a file without the mark has no bad gate
 pub no_gate : (limits : Limits) (file : List ℕ) (gate : ℕ) → IsNoJournal file → IsSpoiltAt limits file gate → ⊥
 no_gate limits file gate wrong x =
     let b = x.behind in
-    wrong.other (ap (take 8) (b.bytes ∙ append_assoc mark (records x.payloads) b.rest) ∙ take_at mark (records x.payloads ++ b.rest) 8 length-mark)
+    wrong.other
+    (ap (take 8) (b.bytes ∙ append_assoc mark (records x.payloads) b.rest) ∙ take_at mark (records x.payloads ++ b.rest) 8 length-mark)

@@ -22,7 +22,8 @@ pub record IsNextRecord (limits : Limits) (old : State) (payload : List ℕ) (m 
 -- the payloads are those of these messages, which the register takes one after another
 unfoldable pub Holds : Limits → State → List (List ℕ) → List Message → State → Type 0
 Holds limits old [] [] new = new ≡ old
-Holds limits old (payload ∷ payloads) (m ∷ messages) new = (mid : State) × IsNextRecord limits old payload m mid × Holds limits mid payloads messages new
+Holds limits old (payload ∷ payloads) (m ∷ messages) new
+    = (mid : State) × IsNextRecord limits old payload m mid × Holds limits mid payloads messages new
 Holds limits old _ _ new = ⊥
 
 -- the file stands for these messages, and this is the state that they leave

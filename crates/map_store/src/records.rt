@@ -61,7 +61,7 @@ fn take_record(
     if !is_same(text.as_slice(), payload) {
         return Err(RecordFault::Bad);
     }
-    match core.try_message(alloc, &message) {
+    match core.try_uncounted(alloc, &message) {
         Ok(()) => {
             core.commit();
             Ok(())

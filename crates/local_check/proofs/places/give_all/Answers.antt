@@ -14,7 +14,8 @@ loop-part-preserved c = record {
   grown = λ q k h. c.in_ok-give.ensures.grown q k (c.loop-part.invariant.grown q k h);
   places = λ q k h. c.in_ok-give.ensures.places q k (c.loop-part.invariant.places q k h);
   known = known_more c.loop-part.numbers c.give.new.self c.args.parts.now c.loop-part.part-index c.part-item.result c.loop-part-test.true
-      (sym c.part-item.is) (grown_some c.loop-part.numbers c.give.new.self c.in_ok-give.ensures.grown) c.in_ok-give.ensures.known c.loop-part.invariant.known;
+      (sym c.part-item.is) (grown_some c.loop-part.numbers c.give.new.self c.in_ok-give.ensures.grown) c.in_ok-give.ensures.known
+      c.loop-part.invariant.known;
 }
 
 pub returns-clause-known : goal.returns-clause-known

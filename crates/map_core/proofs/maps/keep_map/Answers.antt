@@ -11,4 +11,5 @@ returns-in-Some c =
     let new = c.get_mut.follows.lender c.commit.new.self in
     let found : Some c.in-Some.map.now ≡ map_in old c.args.holder = rw c.in-Some.is at c.get_mut.ensures.value in
     let set = written old new c.args.holder c.commit.new.self ((c.get_mut.follows.holds c.commit.new.self).3 (rw (sym found) refl)).0 in
-    committed old new c.args.holder c.in-Some.map.now c.commit.new.self found (subst (λ (o : Option MapView). IfSome o (λ m. IsSome m.tried)) (sym found) c.requires) set c.commit.ensures
+    committed old new c.args.holder c.in-Some.map.now c.commit.new.self found
+    (subst (λ (o : Option MapView). IfSome o (λ m. IsSome m.tried)) (sym found) c.requires) set c.commit.ensures

@@ -6,13 +6,14 @@ use Rattle.map_core.specs.Maps.{no_map, now_in, trying}
 use Rattle.map_core.proofs.maps.try_first.Goals as goal
 
 pub returns-in-Some-clause-rule : goal.returns-in-Some-clause-rule
-returns-in-Some-clause-rule c =
+returns-in-Some-clause-rule g c =
     let now : no_map ≡ now_in c.args.maps.now c.args.holder = sym (ap now_of c.requires.absent) in
-    subst (λ (x : HolderParts). MapRules (changed c.args.change.now x) (Some c.in-Some.refusal)) (ap (λ (v : MapView). v.now) c.new-map.ensures ∙ now)
+    subst (λ (x : HolderParts). MapRules (changed c.args.change.now x) (Some c.in-Some.refusal))
+    (ap (λ (v : MapView). v.now) c.new-map.ensures ∙ now)
     (rw c.in-Some.is at c.in_ok-refusal.ensures.rule)
 
 pub returns-in-Ok-clause-tried : goal.returns-in-Ok-clause-tried
-returns-in-Ok-clause-tried c =
+returns-in-Ok-clause-tried g c =
     let old = c.args.maps.now in
     let new = c.insert.new.self in
     let fresh = c.new-map.ensures in

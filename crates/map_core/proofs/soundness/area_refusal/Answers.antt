@@ -14,5 +14,6 @@ returns-clause-brought c =
     let m = c.args.message.now in
     let shapes = c.in-Some-area.shapes in
     let applied = rw c.in_default-2.is at c.in_ok-refusal.ensures.applied in
-    let same = c.in_ok-area_copy.ensures ∙ (ap (λ (l : List AreaVersion). area_of m.holder l) applied ∙ area_then m.holder m.moment (Some shapes) c.args.areas.now.areas) in
+    let same = c.in_ok-area_copy.ensures ∙ (ap (λ (l : List AreaVersion). area_of m.holder l) applied ∙ area_then m.holder m.moment
+    (Some shapes) c.args.areas.now.areas) in
     ap (with_area c.args.change.now) (ap Some same ∙ sym c.in-Some-area.is)

@@ -10,7 +10,8 @@ returns-in-Some-clause-same c =
     let old = c.args.self.now in
     let moved : Known = record { number = c.in-Some.known.now.number; place = c.args.place } in
     let found : Some c.in-Some.known.now ≡ known_at old c.args.ident = rw c.in-Some.is at c.get_mut.ensures.value in
-    moved_same old (record { by_ident = c.get_mut.follows.lender moved; next = old.next }) c.args.ident c.in-Some.known.now c.args.place found
+    moved_same old (record { by_ident = c.get_mut.follows.lender moved; next = old.next }) c.args.ident c.in-Some.known.now c.args.place
+    found
     ((c.get_mut.follows.holds moved).3 (rw (sym found) refl)).0
 
 pub returns-in-Some-clause-elsewhere : goal.returns-in-Some-clause-elsewhere
@@ -18,5 +19,6 @@ returns-in-Some-clause-elsewhere c =
     let old = c.args.self.now in
     let moved : Known = record { number = c.in-Some.known.now.number; place = c.args.place } in
     let found : Some c.in-Some.known.now ≡ known_at old c.args.ident = rw c.in-Some.is at c.get_mut.ensures.value in
-    moved_elsewhere old (record { by_ident = c.get_mut.follows.lender moved; next = old.next }) c.args.ident c.in-Some.known.now c.args.place found
+    moved_elsewhere old (record { by_ident = c.get_mut.follows.lender moved; next = old.next }) c.args.ident c.in-Some.known.now
+    c.args.place found
     ((c.get_mut.follows.holds moved).3 (rw (sym found) refl)).0

@@ -15,8 +15,11 @@ loop-ident-init c = record {
 pub loop-ident-preserved : goal.loop-ident-preserved
 loop-ident-preserved c = record {
   present = cleared_more c.loop-ident.self c.clear.new.self c.args.leaving.now c.loop-ident.ident-index c.ident-item.result
-      (present c.args.self.now.slots.items) c.loop-ident-test.true (sym c.ident-item.is) c.clear.ensures.slots c.loop-ident.invariant.present;
-  placed = still_placed c.loop-ident.self c.clear.new.self c.ident-item.result c.clear.ensures.slots c.clear.ensures.numbers c.loop-ident.invariant.placed;
+      (present c.args.self.now.slots.items) c.loop-ident-test.true (sym c.ident-item.is) c.clear.ensures.slots
+      c.loop-ident.invariant.present;
+  placed
+      = still_placed c.loop-ident.self c.clear.new.self c.ident-item.result c.clear.ensures.slots c.clear.ensures.count
+      c.clear.ensures.numbers c.loop-ident.invariant.placed;
   numbers = c.clear.ensures.numbers ∙ c.loop-ident.invariant.numbers;
   len = c.clear.ensures.len ∙ c.loop-ident.invariant.len;
   capacity = c.clear.ensures.capacity ∙ c.loop-ident.invariant.capacity;

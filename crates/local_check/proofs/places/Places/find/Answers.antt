@@ -15,4 +15,5 @@ returns-in_err-place-clause-none c =
 pub returns-clause-some : goal.returns-clause-some
 returns-clause-some c =
     let here = c.in_ok-place.ensures.some in
-    found_at c.args.self.now.slots.items c.in_ok-place.place here.0 c.args.ident c.as_ref.result c.index.result.now c.as_ref.ensures.value c.index.ensures here.1 here.2
+    found_at c.args.self.now.slots.items c.in_ok-place.place here.0 c.args.ident c.as_ref.result c.index.result.now c.as_ref.ensures.value
+    c.index.ensures here.1 here.2

@@ -4,8 +4,10 @@ use Rattle.map_core.proofs.held.Held.give_up.Goals as goal
 
 pub give_up_map-requires : goal.give_up_map-requires
 give_up_map-requires c = rw c.roll_back.ensures.maps
-    (is_tried (state_of c.args.self.now) (next_state c.args.self.now c.args.tried.now) c.args.self.now.maps c.args.tried.now.header.holder c.requires)
+    (is_tried (state_of c.args.self.now) (next_state c.args.self.now c.args.tried.now) c.args.self.now.maps c.args.tried.now.header.holder
+    c.requires)
 
 pub returns-clause-maps : goal.returns-clause-maps
-returns-clause-maps c = given_up (state_of c.args.self.now) (next_state c.args.self.now c.args.tried.now) c.args.self.now.maps c.give_up_map.new.maps c.args.tried.now.header.holder
+returns-clause-maps c = given_up (state_of c.args.self.now) (next_state c.args.self.now c.args.tried.now) c.args.self.now.maps
+    c.give_up_map.new.maps c.args.tried.now.header.holder
     c.requires (rw c.roll_back.ensures.maps at c.give_up_map.ensures)

@@ -1,4 +1,4 @@
-use Rattle.map_core.proofs.maps.try_change.Given as goal
+use Rattle.map_core.proofs.register.Core.try_uncounted.Given as goal
 
 abbrev pub ghosts-try_counted : goal.ghosts-try_counted
 ghosts-try_counted a = record { name = a.blank.name; parts = a.blank.parts }
