@@ -37,7 +37,8 @@ size-push [] p = omega arith
 size-push (q ∷ ps) p = omega (arith, size-push ps p)
 
 -- a message for which a store has room, after those that it keeps
-pub kept_with_room : (s : StoreView) (disk : Option (List ℕ)) (leaves : List ℕ → Type 0) (ms : List Message) (m : Message) → IsKept s disk leaves ms
+pub kept_with_room : (s : StoreView) (disk : Option (List ℕ)) (leaves : List ℕ → Type 0) (ms : List Message) (m : Message)
+    → IsKept s disk leaves ms
     → HasRoomFor s m → HaveRoom s.limits (ms ++ m ∷ [])
 kept_with_room s disk leaves ms m k h = record {
   payloads = k.payloads ++ h.payload ∷ [];
@@ -54,7 +55,8 @@ kept_with_room s disk leaves ms m k h = record {
 }
 
 -- what is taken of one message
-pub taken_with_room : (limits : Limits) (r : RegisterView) (disk : Option (List ℕ)) (leaves : List ℕ → Type 0) (m : Message) (answer : Answer)
+pub taken_with_room : (limits : Limits) (r : RegisterView) (disk : Option (List ℕ)) (leaves : List ℕ → Type 0) (m : Message)
+    (answer : Answer)
     → r.limits ≡ limits → (answer ≡ Taken → HasRoomIn r m) → (first : List Message) → IsKeptBy r disk leaves first
     → AddedWithRoom limits first (taken_of answer m)
 taken_with_room limits r disk leaves m Taken same room first k =
@@ -66,5 +68,6 @@ taken_with_room limits r disk leaves m (Refused e) same room first k = inl refl
 -- what is added next
 pub room_on : (limits : Limits) (first k1 k2 : List Message) → AddedWithRoom limits first k1 → AddedWithRoom limits (first ++ k1) k2
     → AddedWithRoom limits first (k1 ++ k2)
-room_on limits first k1 k2 h (inl none) = subst (AddedWithRoom limits first) (sym (ap (λ (l : List Message). k1 ++ l) none ∙ append-nil k1)) h
+room_on limits first k1 k2 h (inl none)
+    = subst (AddedWithRoom limits first) (sym (ap (λ (l : List Message). k1 ++ l) none ∙ append-nil k1)) h
 room_on limits first k1 k2 h (inr room) = inr (subst (HaveRoom limits) (append_assoc first k1 k2) room)

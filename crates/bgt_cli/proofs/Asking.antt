@@ -31,7 +31,8 @@ begins words (PointAt p moment) h = ap first_byte h.4
 begins words (ExportAt moment) h = ap first_byte h.2
 
 vertex_is : (p q : Vertex) → p.x ≡ q.x → p.y ≡ q.y → p ≡ q
-vertex_is p q e f = ap (λ (x : ℤ). let v : Vertex = record { x = x; y = p.y } in v) e ∙ ap (λ (y : ℤ). let v : Vertex = record { x = q.x; y = y } in v) f
+vertex_is p q e f
+    = ap (λ (x : ℤ). let v : Vertex = record { x = x; y = p.y } in v) e ∙ ap (λ (y : ℤ). let v : Vertex = record { x = q.x; y = y } in v) f
 
 one_point : (x y : List ℕ) (p q : Vertex) → HasPoint x y p → HasPoint x y q → p ≡ q
 one_point x y p q h k = vertex_is p q (one_mm x p.x q.x h.0.0 k.0.0) (one_mm y p.y q.y h.1.0 k.1.0)
@@ -102,13 +103,16 @@ IsFound words found = MatchOption found ((query : Query) → ¬ Asks words query
 
 -- what is found in the fields of each command
 abbrev pub IsState : List ℕ → Option Query → Type 0
-IsState at found = MatchOption found ((moment : ℤ) → ¬ HasMoment wide at moment) (λ query. (moment : ℤ) × HasMoment wide at moment × (query ≡ StateAt moment))
+IsState at found = MatchOption found ((moment : ℤ) → ¬ HasMoment wide at moment)
+    (λ query. (moment : ℤ) × HasMoment wide at moment × (query ≡ StateAt moment))
 
 abbrev pub IsExport : List ℕ → Option Query → Type 0
-IsExport at found = MatchOption found ((moment : ℤ) → ¬ HasMoment wide at moment) (λ query. (moment : ℤ) × HasMoment wide at moment × (query ≡ ExportAt moment))
+IsExport at found = MatchOption found ((moment : ℤ) → ¬ HasMoment wide at moment)
+    (λ query. (moment : ℤ) × HasMoment wide at moment × (query ≡ ExportAt moment))
 
 abbrev pub IsHistory : List ℕ → Option Query → Type 0
-IsHistory id found = MatchOption found ((ident : List ℕ) → ¬ HasIdent id ident) (λ query. (ident : List ℕ) × HasIdent id ident × (query ≡ HistoryOf ident))
+IsHistory id found
+    = MatchOption found ((ident : List ℕ) → ¬ HasIdent id ident) (λ query. (ident : List ℕ) × HasIdent id ident × (query ≡ HistoryOf ident))
 
 abbrev pub IsPoint : (x y at : List ℕ) → Option Query → Type 0
 IsPoint x y at found = MatchOption found ((p : Vertex) (moment : ℤ) → HasPoint x y p → ¬ HasMoment wide at moment)

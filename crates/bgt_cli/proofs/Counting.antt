@@ -25,14 +25,17 @@ length-below zero = refl
 length-below (suc n) = omega (arith, length-append (below n) (n ∷ []), length-below n)
 
 -- where each has so many, all have as many for each
-length-each : {A B : Type 0} (f : A → List B) (k : ℕ) → ((x : A) → length (f x) ≡ k) → (xs : List A) → length (flat_map f xs) ≡ k * length xs
+length-each : {A B : Type 0} (f : A → List B) (k : ℕ) → ((x : A) → length (f x) ≡ k) → (xs : List A)
+    → length (flat_map f xs) ≡ k * length xs
 length-each f k each [] = omega arith
-length-each f k each (x ∷ xs) = omega (arith, ap length (flat_map-cons f x xs), length-append (f x) (flat_map f xs), each x, length-each f k each xs)
+length-each f k each (x ∷ xs)
+    = omega (arith, ap length (flat_map-cons f x xs), length-append (f x) (flat_map f xs), each x, length-each f k each xs)
 
 All-each : {A B : Type 0} (P : B → Type 0) (f : A → List B) → ((x : A) → All P (f x)) → (xs : List A) → All P (flat_map f xs)
 All-each P f each [] = All-nil P
 All-each P f each (x ∷ xs) =
-    All-same P (flat_map f (x ∷ xs)) (f x ++ flat_map f xs) (flat_map-cons f x xs) (All-append P (f x) (flat_map f xs) (each x) (All-each P f each xs))
+    All-same P (flat_map f (x ∷ xs)) (f x ++ flat_map f xs) (flat_map-cons f x xs)
+    (All-append P (f x) (flat_map f xs) (each x) (All-each P f each xs))
 
 -- ---- what the messages have
 abbrev IsShort : List Vertex → Type 0
@@ -77,7 +80,12 @@ next_counted n k = either (k % 2 == 1)
 cells_few : (n : ℕ) → n ≤ 400 → length (cells n) < 2 ^ 32
 cells_few n most =
     let row : (j : ℕ) → length (map (new_cell n j) (below n)) ≡ n = λ j. length-map (below n) (new_cell n j) ∙ length-below n in
-    omega (arith, length-each (λ (j : ℕ). map (new_cell n j) (below n)) n row (below n), ap (λ (k : ℕ). n * k) (length-below n), mul-le-mul_left n most)
+    omega (
+      arith,
+      length-each (λ (j : ℕ). map (new_cell n j) (below n)) n row (below n),
+      ap (λ (k : ℕ). n * k) (length-below n),
+      mul-le-mul_left n most,
+    )
 
 cells_counted : (n : ℕ) → All HasFew (cells n)
 cells_counted n = All-each HasFew (λ (j : ℕ). map (new_cell n j) (below n)) (λ j. All-map HasFew (new_cell n j) (below n)

@@ -18,11 +18,13 @@ use Rattle.bgt_cli.specs.Load.{AnsweredFrom, EndsLoad}
 use Rattle.bgt_cli.specs.Session.{tail_line}
 use Rattle.bgt_cli.proofs.Accepting.{accepts_run}
 
-module _ (limits : Limits) (stays : (s : State) (texts : List (List ℕ)) (answers : List Answer) (t : State) → Good s → Run limits s texts answers t → StaysTiled limits s texts answers)
+module _ (limits : Limits) (stays : (s : State) (texts : List (List ℕ)) (answers : List Answer) (t : State) → Good s
+    → Run limits s texts answers t → StaysTiled limits s texts answers)
     (input : List ℕ) (n : ℕ) (within : n ≤ length input) (goes : ℕ → List ℕ → Type 0) where
   -- `check`
   module _ (good : Good opening) where
-    from_front : (answers : List Answer) (more : List (List ℕ)) (tail : List ℕ) (t : State) (lines front told : List ℕ) → told ≡ lines ++ front → goes n told
+    from_front : (answers : List Answer) (more : List (List ℕ)) (tail : List ℕ) (t : State) (lines front told : List ℕ)
+        → told ≡ lines ++ front → goes n told
         → Answered limits (take n input) lines answers more tail t → KeepsTiled limits opening input goes
     from_front answers more tail t lines front told e g a = record {
       n = n;
@@ -39,13 +41,16 @@ module _ (limits : Limits) (stays : (s : State) (texts : List (List ℕ)) (answe
       tiled = stays opening a.texts answers t good a.run;
     }
 
-    from_all : (answers : List Answer) (more : List (List ℕ)) (tail : List ℕ) (t : State) (told : List ℕ) → goes n told → Answered limits (take n input) told answers more tail t
+    from_all : (answers : List Answer) (more : List (List ℕ)) (tail : List ℕ) (t : State) (told : List ℕ) → goes n told
+        → Answered limits (take n input) told answers more tail t
         → KeepsTiled limits opening input goes
     from_all answers more tail t told g a = from_front answers more tail t told [] told (sym (append-nil told)) g a
 
-    pub by_check : (told : List ℕ) (status : Status) → goes n told → EndsCheck limits input (take n input) told status → KeepsTiled limits opening input goes
+    pub by_check : (told : List ℕ) (status : Status) → goes n told → EndsCheck limits input (take n input) told status
+        → KeepsTiled limits opening input goes
     by_check told Fine g (answers, all, good) = from_all answers [] [] all.state told g all.answered
-    by_check told Refused g (answers, lines, tail, all, e, bad) = from_front answers [] tail all.state lines (tail_line tail) told e g all.answered
+    by_check told Refused g (answers, lines, tail, all, e, bad)
+        = from_front answers [] tail all.state lines (tail_line tail) told e g all.answered
     by_check told Usage g e = absurd e
     by_check told ReadFault g (answers, tail, t, a) = from_all answers [] tail t told g a
     by_check told WriteFault g e = from_front e.answers e.more e.tail e.state e.lines e.front told e.told_is g e.answered
@@ -57,7 +62,8 @@ module _ (limits : Limits) (stays : (s : State) (texts : List (List ℕ)) (answe
 
   -- `load`
   module _ (s : State) (good : Good s) where
-    since_front : (answers : List Answer) (kept : List Message) (more : List (List ℕ)) (tail : List ℕ) (t : State) (lines front told : List ℕ) → told ≡ lines ++ front → goes n told
+    since_front : (answers : List Answer) (kept : List Message) (more : List (List ℕ)) (tail : List ℕ) (t : State)
+        (lines front told : List ℕ) → told ≡ lines ++ front → goes n told
         → AnsweredFrom limits s (take n input) lines answers kept more tail t → KeepsTiled limits s input goes
     since_front answers kept more tail t lines front told e g a = record {
       n = n;
@@ -74,14 +80,17 @@ module _ (limits : Limits) (stays : (s : State) (texts : List (List ℕ)) (answe
       tiled = stays s a.texts answers t good (accepts_run limits s t a.texts answers kept a.run);
     }
 
-    since_all : (answers : List Answer) (kept : List Message) (more : List (List ℕ)) (tail : List ℕ) (t : State) (told : List ℕ) → goes n told
+    since_all : (answers : List Answer) (kept : List Message) (more : List (List ℕ)) (tail : List ℕ) (t : State) (told : List ℕ)
+        → goes n told
         → AnsweredFrom limits s (take n input) told answers kept more tail t → KeepsTiled limits s input goes
     since_all answers kept more tail t told g a = since_front answers kept more tail t told [] told (sym (append-nil told)) g a
 
-    pub by_load : (told : List ℕ) (kept : List Message) (gate : ℕ) (status : Status) → goes n told → EndsLoad limits s input (take n input) told kept gate status
+    pub by_load : (told : List ℕ) (kept : List Message) (gate : ℕ) (status : Status) → goes n told
+        → EndsLoad limits s input (take n input) told kept gate status
         → KeepsTiled limits s input goes
     by_load told kept gate Fine g (answers, all, good) = since_all answers kept [] [] all.state told g all.answered
-    by_load told kept gate Refused g (answers, lines, tail, all, e, bad) = since_front answers kept [] tail all.state lines (tail_line tail) told e g all.answered
+    by_load told kept gate Refused g (answers, lines, tail, all, e, bad)
+        = since_front answers kept [] tail all.state lines (tail_line tail) told e g all.answered
     by_load told kept gate Usage g e = absurd e
     by_load told kept gate ReadFault g (answers, tail, t, a) = since_all answers kept [] tail t told g a
     by_load told kept gate WriteFault g e = since_front e.answers e.so_far e.more e.tail e.state e.lines e.front told e.told_is g e.answered
@@ -92,7 +101,8 @@ module _ (limits : Limits) (stays : (s : State) (texts : List (List ℕ)) (answe
     by_load told kept gate JournalFull g (answers, text, more, tail, t, a, room) = since_all answers kept (text ∷ more) tail t told g a
 
 -- the state that the messages of a file leave
-pub held_good : ((limits : Limits) (s : State) (m : Message) → Good s → Decision limits s m None → Good (after s m)) → (limits : Limits) (s : State) (payloads : List (List ℕ))
+pub held_good : ((limits : Limits) (s : State) (m : Message) → Good s → Decision limits s m None → Good (after s m))
+    → (limits : Limits) (s : State) (payloads : List (List ℕ))
     (messages : List Message) (t : State) → Good s → Holds limits s payloads messages t → Good t
 unfolding Holds
 held_good step limits s [] [] t g h = subst Good (sym h) g

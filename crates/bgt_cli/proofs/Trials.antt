@@ -33,12 +33,15 @@ own : IsNumeralModel (AllDigits 10) (digits_value 10)
 own = numerals_by_value (AllDigits 10) tells_digits
 
 -- a word that is read as a number, and does not begin with a sign or a zero, is the number in decimal
-pub read : {E : Type 0} (word : List ℕ) (r : Result ℕ E) (n : ℕ) → ParsesUnsigned 32 10 word r → 48 < get_or word 0 0 → r ≡ Ok n → word ≡ decimal n
+pub read : {E : Type 0} (word : List ℕ) (r : Result ℕ E) (n : ℕ) → ParsesUnsigned 32 10 word r → 48 < get_or word 0 0 → r ≡ Ok n
+    → word ≡ decimal n
 read {E} word r n h first e =
     let plain = parse_plain own 32 word r h (λ plus. omega (arith, plus, first)) in
     let ok : OkIff {E = E} (Ok n) (AllDigits 10 word × (0 < length word) × (digits_value 10 word < 2 ^ 32)) (digits_value 10 word) =
-    subst (λ (x : Result ℕ E). OkIff x (AllDigits 10 word × (0 < length word) × (digits_value 10 word < 2 ^ 32)) (digits_value 10 word)) e plain in
-    sym (decimal-digits_value own word ok.0.0 ok.0.1 (λ zero. absurd (omega (arith, zero, first))) (omega (arith, ok.0.2))) ∙ ap decimal (sym ok.1)
+    subst (λ (x : Result ℕ E). OkIff x (AllDigits 10 word × (0 < length word) × (digits_value 10 word < 2 ^ 32)) (digits_value 10 word)) e
+    plain in
+    sym (decimal-digits_value own word ok.0.0 ok.0.1 (λ zero. absurd (omega (arith, zero, first))) (omega (arith, ok.0.2))) ∙ ap decimal
+    (sym ok.1)
 
 -- a size is read
 pub size_read : {E : Type 0} (word : List ℕ) (r : Result ℕ E) (n : ℕ) → ParsesUnsigned 32 10 word r → IsSize word n → r ≡ Ok n
@@ -46,7 +49,8 @@ size_read word r n h size = parse-decimal 32 n word r (omega (arith, size.0.1)) 
 
 -- and begins with neither
 pub size_first : (word : List ℕ) (n : ℕ) → IsSize word n → 48 < get_or word 0 0
-size_first word n size = subst (λ (w : List ℕ). 48 < get_or w 0 0) (sym size.1) (first_decimal n (omega (arith, size.0.0)) (omega (arith, size.0.1)))
+size_first word n size
+    = subst (λ (w : List ℕ). 48 < get_or w 0 0) (sym size.1) (first_decimal n (omega (arith, size.0.0)) (omega (arith, size.0.1)))
 
 -- and is not empty
 pub size_some : (word : List ℕ) (n : ℕ) → IsSize word n → 0 < length word
@@ -61,7 +65,8 @@ unfolding Steps
 no_steps limits s = refl
 
 pub one_more : (limits : Limits) (old mid new : State) (messages : List Message) (answers : List Answer) (m : Message) (answer : Answer)
-    → Steps limits old messages answers mid → Step limits mid m answer new → Steps limits old (messages ++ m ∷ []) (answers ++ answer ∷ []) new
+    → Steps limits old messages answers mid → Step limits mid m answer new
+    → Steps limits old (messages ++ m ∷ []) (answers ++ answer ∷ []) new
 unfolding Steps
 one_more limits old mid new [] [] m answer so_far step = (new, subst (λ (s : State). Step limits s m answer new) so_far step, refl)
 one_more limits old mid new (x ∷ messages) (y ∷ answers) m answer so_far step =
@@ -94,7 +99,8 @@ pub others_refused : (answers : List Answer) → count_by is_taken answers + cou
 others_refused answers = omega (arith, from 0 0 answers)
   where
     from : (t r : ℕ) (xs : List Answer)
-        → fold (λ (n : ℕ) (a : Answer). n + cond (is_taken a) 1 0) t xs + fold (λ (n : ℕ) (a : Answer). n + cond (is_refused a) 1 0) r xs ≡ t + r + length xs
+        → fold (λ (n : ℕ) (a : Answer). n + cond (is_taken a) 1 0) t xs + fold (λ (n : ℕ) (a : Answer). n + cond (is_refused a) 1 0) r
+        xs ≡ t + r + length xs
     from t r [] = omega arith
     from t r (Taken ∷ xs) = let e = from (t + 1) (r + 0) xs in omega (arith, e)
     from t r (Refused x ∷ xs) = let e = from (t + 0) (r + 1) xs in omega (arith, e)
@@ -114,17 +120,20 @@ left_more limits messages m old new answer so_far step = record {
   counted = counted_on so_far.answers answer old.accepted new.accepted so_far.counted (one_counted limits old new m answer step);
 }
 
-pub few_more : (limits : Limits) (m : Message) (old new : State) (answer : Answer) → Step limits old m answer new → new.accepted ≤ old.accepted + 1
+pub few_more : (limits : Limits) (m : Message) (old new : State) (answer : Answer) → Step limits old m answer new
+    → new.accepted ≤ old.accepted + 1
 few_more limits m old new Taken step = omega (arith, one_counted limits old new m Taken step)
 few_more limits m old new (Refused r) step = omega (arith, one_counted limits old new m (Refused r) step)
 
 -- no more were taken than there are, and the rest was refused
 pub taken_few : (limits : Limits) (messages : List Message) (s : State) → IsLeftBy limits messages s → s.accepted ≤ length messages
-taken_few limits messages s left = omega (arith, left.counted, others_refused left.answers, as_many limits opening s messages left.answers left.steps)
+taken_few limits messages s left
+    = omega (arith, left.counted, others_refused left.answers, as_many limits opening s messages left.answers left.steps)
 
 pub rest_refused : (limits : Limits) (messages : List Message) (s : State) → (left : IsLeftBy limits messages s)
     → length messages - s.accepted ≡ count_by is_refused left.answers
-rest_refused limits messages s left = omega (arith, left.counted, others_refused left.answers, as_many limits opening s messages left.answers left.steps)
+rest_refused limits messages s left
+    = omega (arith, left.counted, others_refused left.answers, as_many limits opening s messages left.answers left.steps)
 
 -- ---- the five lines
 abbrev five : (n a r o v : ℕ) → List ℕ
@@ -134,11 +143,13 @@ five n a r o v =
 
 pub tells_trial : (limits : Limits) (n a r o v : ℕ) (text : List ℕ) (messages : List Message) (s : State) → messages ≡ made n
     → (left : IsLeftBy limits messages s)
-    → text ≡ five n a r o v → a ≡ s.accepted → r ≡ length messages - a → o ≡ count_by is_current s.versions → v ≡ length s.versions → IsTrialText limits n text
+    → text ≡ five n a r o v → a ≡ s.accepted → r ≡ length messages - a → o ≡ count_by is_current s.versions → v ≡ length s.versions
+    → IsTrialText limits n text
 tells_trial limits n a r o v text messages s is left told accepted refused objects versions =
     let t = count_by is_taken left.answers in
     let e : a ≡ t = accepted ∙ left.counted in
-    let f : r ≡ count_by is_refused left.answers = refused ∙ ap (λ (k : ℕ). length messages - k) accepted ∙ rest_refused limits messages s left in
+    let f : r ≡ count_by is_refused left.answers
+    = refused ∙ ap (λ (k : ℕ). length messages - k) accepted ∙ rest_refused limits messages s left in
     record {
       answers = left.answers;
       state = s;
@@ -149,7 +160,8 @@ tells_trial limits n a r o v text messages s is left told accepted refused objec
     }
 
 -- ---- how it ends
-told_taken : (IsText : List ℕ → Type 0) (limit : ℕ) (status : Status) (old new : Shown) → IsWithoutFile status → TellsText IsText status old new
+told_taken : (IsText : List ℕ → Type 0) (limit : ℕ) (status : Status) (old new : Shown) → IsWithoutFile status
+    → TellsText IsText status old new
     → TakesAtMost limit old new
 told_taken IsText limit Good old new no_file h = (0, h.0, omega arith, h.2)
 told_taken IsText limit WriteFault old new no_file h = (0, h.2.0, omega arith, h.2.3)
@@ -163,11 +175,13 @@ told_taken IsText limit InputLong old new no_file h = absurd h
 told_taken IsText limit JournalFull old new no_file h = absurd h
 
 -- no input is taken
-pub trial_taken : (limits : Limits) (n limit : ℕ) (status : Status) (old new : Shown) → EndsTrial limits n status old new → TakesAtMost limit old new
+pub trial_taken : (limits : Limits) (n limit : ℕ) (status : Status) (old new : Shown) → EndsTrial limits n status old new
+    → TakesAtMost limit old new
 trial_taken limits n limit status old new h = told_taken (IsTrialText limits n) limit status old new h.no_file h.told
 
 -- and where no call failed all is told, or there is no memory
-pub trial_whole : (limits : Limits) (n : ℕ) (status : Status) (old new : Shown) (before now : Faults) → NoneRose before now → EndsTrial limits n status old new
+pub trial_whole : (limits : Limits) (n : ℕ) (status : Status) (old new : Shown) (before now : Faults) → NoneRose before now
+    → EndsTrial limits n status old new
     → (status ≡ WriteFault → Rose before.writes now.writes) → IsGoodOrWant status
 trial_whole limits n status old new before now none h write =
     whole_query (IsTrialText limits n) status old new before now none h.told write (λ disk. absurd (subst IsWithoutFile disk h.no_file))

@@ -33,14 +33,16 @@ IsLoad words = (file : List ℕ) × (map (λ word. word.now) words ≡ codes "lo
 
 -- The bytes that were taken are cut into texts and a tail. The first of the texts were answered so, by these lines, from this
 -- state on; these messages of them were taken; more texts come after them.
-pub record AnsweredFrom (limits : Limits) (old : State) (taken lines : List ℕ) (answers : List Answer) (kept : List Message) (more : List (List ℕ)) (tail : List ℕ) (state : State) : Type 0 where
+pub record AnsweredFrom (limits : Limits) (old : State) (taken lines : List ℕ) (answers : List Answer) (kept : List Message)
+    (more : List (List ℕ)) (tail : List ℕ) (state : State) : Type 0 where
   pub texts : List (List ℕ)
   pub cut : AreTexts taken (texts ++ more) tail
   pub run : Accepts limits old texts answers kept state
   pub replies : AreReplies 1 answers lines
 
 -- all texts were answered, and the input was read to its end
-pub record LoadedAll (limits : Limits) (old : State) (input taken lines : List ℕ) (answers : List Answer) (kept : List Message) (tail : List ℕ) : Type 0 where
+pub record LoadedAll (limits : Limits) (old : State) (input taken lines : List ℕ) (answers : List Answer) (kept : List Message)
+    (tail : List ℕ) : Type 0 where
   pub state : State
   pub answered : AnsweredFrom limits old taken lines answers kept [] tail state
   pub whole : taken ≡ input
@@ -56,9 +58,11 @@ pub record HasNoRoom (limits : Limits) (state : State) (gate : ℕ) (text : List
   pub past : limits.journal_bytes < gate + 10 + length payload
 
 -- the line that comes next: that of the next text, of which these messages are taken, or after the whole input that of the tail
-abbrev pub IsNextAnswer : Limits → (input taken : List ℕ) → (number : ℕ) → (more : List (List ℕ)) → (tail : List ℕ) → State → (line : List ℕ) → (kept : List Message) → Type 0
+abbrev pub IsNextAnswer : Limits → (input taken : List ℕ) → (number : ℕ) → (more : List (List ℕ)) → (tail : List ℕ) → State
+    → (line : List ℕ) → (kept : List Message) → Type 0
 IsNextAnswer limits input taken number [] tail state line kept = (taken ≡ input) × (line ≡ tail_line tail) × (kept ≡ [])
-IsNextAnswer limits input taken number (text ∷ more) tail state line kept = (answer : Answer) × (new : State) × Accepts limits state (text ∷ []) (answer ∷ []) kept new × IsReplyLine number answer line
+IsNextAnswer limits input taken number (text ∷ more) tail state line kept
+    = (answer : Answer) × (new : State) × Accepts limits state (text ∷ []) (answer ∷ []) kept new × IsReplyLine number answer line
 
 -- a front of the next line was told after the lines of the first texts, and what is taken of the next text is kept
 pub record LoadCutShort (limits : Limits) (old : State) (input taken told : List ℕ) (kept : List Message) : Type 0 where
@@ -78,13 +82,23 @@ pub record LoadCutShort (limits : Limits) (old : State) (input taken told : List
 
 -- how a run ends that took these bytes of the input, told these, and kept these messages in a file whose first closed gate is here
 abbrev pub EndsLoad : Limits → (old : State) → (input taken told : List ℕ) → (kept : List Message) → (gate : ℕ) → Status → Type 0
-EndsLoad limits old input taken told kept gate Good = (answers : List Answer) × LoadedAll limits old input taken told answers kept [] × All (λ answer. answer ≡ Taken) answers
-EndsLoad limits old input taken told kept gate Refused = (answers : List Answer) × (lines tail : List ℕ) × LoadedAll limits old input taken lines answers kept tail × (told ≡ lines ++ tail_line tail) × ¬ IsAllGood answers tail
-EndsLoad limits old input taken told kept gate ReadFault = (answers : List Answer) × (tail : List ℕ) × (state : State) × AnsweredFrom limits old taken told answers kept [] tail state
-EndsLoad limits old input taken told kept gate InputLong = (answers : List Answer) × (tail : List ℕ) × (state : State) × AnsweredFrom limits old taken told answers kept [] tail state × (length taken ≡ limits.input_bytes)
-EndsLoad limits old input taken told kept gate NoMemory = (answers : List Answer) × (more : List (List ℕ)) × (tail : List ℕ) × (state : State) × AnsweredFrom limits old taken told answers kept more tail state
-EndsLoad limits old input taken told kept gate DiskFault = (answers : List Answer) × (more : List (List ℕ)) × (tail : List ℕ) × (state : State) × AnsweredFrom limits old taken told answers kept more tail state
-EndsLoad limits old input taken told kept gate JournalFull = (answers : List Answer) × (text : List ℕ) × (more : List (List ℕ)) × (tail : List ℕ) × (state : State) × AnsweredFrom limits old taken told answers kept (text ∷ more) tail state × HasNoRoom limits state gate text
+EndsLoad limits old input taken told kept gate Good
+    = (answers : List Answer) × LoadedAll limits old input taken told answers kept [] × All (λ answer. answer ≡ Taken) answers
+EndsLoad limits old input taken told kept gate Refused
+    = (answers : List Answer) × (lines tail : List ℕ) × LoadedAll limits old input taken lines answers kept tail
+    × (told ≡ lines ++ tail_line tail) × ¬ IsAllGood answers tail
+EndsLoad limits old input taken told kept gate ReadFault
+    = (answers : List Answer) × (tail : List ℕ) × (state : State) × AnsweredFrom limits old taken told answers kept [] tail state
+EndsLoad limits old input taken told kept gate InputLong
+    = (answers : List Answer) × (tail : List ℕ) × (state : State) × AnsweredFrom limits old taken told answers kept [] tail state
+    × (length taken ≡ limits.input_bytes)
+EndsLoad limits old input taken told kept gate NoMemory = (answers : List Answer) × (more : List (List ℕ)) × (tail : List ℕ)
+    × (state : State) × AnsweredFrom limits old taken told answers kept more tail state
+EndsLoad limits old input taken told kept gate DiskFault = (answers : List Answer) × (more : List (List ℕ)) × (tail : List ℕ)
+    × (state : State) × AnsweredFrom limits old taken told answers kept more tail state
+EndsLoad limits old input taken told kept gate JournalFull = (answers : List Answer) × (text : List ℕ) × (more : List (List ℕ))
+    × (tail : List ℕ) × (state : State) × AnsweredFrom limits old taken told answers kept (text ∷ more) tail state
+    × HasNoRoom limits state gate text
 EndsLoad limits old input taken told kept gate WriteFault = LoadCutShort limits old input taken told kept
 EndsLoad limits old input taken told kept gate Usage = ⊥
 EndsLoad limits old input taken told kept gate BadJournal = ⊥
@@ -112,7 +126,8 @@ FileStands limits _ gate disk messages = FileHas limits disk messages
 -- How a run ends that began with this register. Where its file had messages, it has those too that were taken, none of them past
 -- the limit on the file; and at each moment, with so many whole reply lines told since the beginning, a crash left a file that stands
 -- for the messages from before and those that were taken of the first so many texts, or of one text more.
-pub record IsAnswered {O : Type 0} (shown : O → Shown) (leaves : O → List ℕ → Type 0) (clock : O → ℕ) (left : O → ℕ → List ℕ → List ℕ → Type 0)
+pub record IsAnswered {O : Type 0} (shown : O → Shown) (leaves : O → List ℕ → Type 0) (clock : O → ℕ)
+    (left : O → ℕ → List ℕ → List ℕ → Type 0)
     (limits : Limits) (r : RegisterView) (input : List ℕ) (status : Status) (old new : O) : Type 0 where
   pub n : ℕ
   pub told : List ℕ
@@ -124,7 +139,8 @@ pub record IsAnswered {O : Type 0} (shown : O → Shown) (leaves : O → List �
   pub goes : GoesBy r n told (shown old) (shown new)
   pub cut : AreTexts (take n input) texts tail
   pub ends : EndsLoad limits r.state input (take n input) told kept gate status
-  pub file : (first : List Message) → IsKeptBy r (shown old).disk (leaves old) first → FileStands limits status gate (shown new).disk (first ++ kept)
+  pub file : (first : List Message) → IsKeptBy r (shown old).disk (leaves old) first
+      → FileStands limits status gate (shown new).disk (first ++ kept)
   pub room : (first : List Message) → IsKeptBy r (shown old).disk (leaves old) first → AddedWithRoom limits first kept
   pub crash : (first : List Message) (before : List ℕ) → IsKeptBy r (shown old).disk (leaves old) first → (shown old).told ≡ Some before
       → LeavesOnly clock left old new (HasAnsweredAllSince limits first r.state before texts)
@@ -132,7 +148,8 @@ pub record IsAnswered {O : Type 0} (shown : O → Shown) (leaves : O → List �
 -- How a run of `load` ends over a file that stands for these messages. What it adds ends within the limit on the file. At each moment
 -- since its beginning, with so many whole reply lines told since then, a crash leaves a file that stands for the messages of the file at
 -- entry and those that were taken of the first so many texts, or of one text more, none of them past that limit.
-pub record IsLoaded {O : Type 0} (shown : O → Shown) (clock : O → ℕ) (left : O → ℕ → List ℕ → List ℕ → Type 0) (limits : Limits) (first : List Message) (state : State) (input : List ℕ) (status : Status) (old new : O) : Type 0 where
+pub record IsLoaded {O : Type 0} (shown : O → Shown) (clock : O → ℕ) (left : O → ℕ → List ℕ → List ℕ → Type 0) (limits : Limits)
+    (first : List Message) (state : State) (input : List ℕ) (status : Status) (old new : O) : Type 0 where
   pub n : ℕ
   pub told : List ℕ
   pub kept : List Message
@@ -145,10 +162,12 @@ pub record IsLoaded {O : Type 0} (shown : O → Shown) (clock : O → ℕ) (left
   pub ends : EndsLoad limits state input (take n input) told kept gate status
   pub stands : FileStands limits status gate (shown new).disk (first ++ kept)
   pub room : AddedWithRoom limits first kept
-  pub crash : (told_then image : List ℕ) → LeftSince (λ (o : O). (shown o).told) clock left old new told_then image → HasAnswered limits first state texts (min (whole_lines told_then) (length texts)) image
+  pub crash : (told_then image : List ℕ) → LeftSince (λ (o : O). (shown o).told) clock left old new told_then image
+      → HasAnswered limits first state texts (min (whole_lines told_then) (length texts)) image
 
 -- the clause of `load`: what was known at entry, and how the run ends then
-abbrev pub MeetsLoad : {O : Type 0} → (O → Shown) → (O → List ℕ → Type 0) → (O → ℕ) → (O → ℕ → List ℕ → List ℕ → Type 0) → Limits → O → O → Status → Type 0
+abbrev pub MeetsLoad : {O : Type 0} → (O → Shown) → (O → List ℕ → Type 0) → (O → ℕ) → (O → ℕ → List ℕ → List ℕ → Type 0) → Limits → O → O
+    → Status → Type 0
 MeetsLoad {O} shown leaves clock left limits old new status =
     (input before : List ℕ) → (shown old).input ≡ Some input → (shown old).told ≡ Some before
     → (first : List Message) (state : State) → BeginsWith limits (shown old).disk (leaves old) first state
@@ -162,7 +181,8 @@ damaged_line gate = codes "DAMAGED " ++ (decimal gate ++ 10 ∷ [])
 
 -- the one line of a file that stands for no list
 abbrev pub IsBadLine : Limits → (file line : List ℕ) → Type 0
-IsBadLine limits file line = (IsNoJournal file × (line ≡ not_journal_line)) ⊎ ((gate : ℕ) × IsSpoiltAt limits file gate × (line ≡ damaged_line gate))
+IsBadLine limits file line
+    = (IsNoJournal file × (line ≡ not_journal_line)) ⊎ ((gate : ℕ) × IsSpoiltAt limits file gate × (line ≡ damaged_line gate))
 
 -- how a run ends over such a file whose line this is
 abbrev pub EndsRefused : (line : List ℕ) → Status → Shown → Shown → Type 0
@@ -181,7 +201,8 @@ TakesAtMostWithDisk limit old new = (n : ℕ) × (told : List ℕ) × (n ≤ lim
 
 -- that line was told, and the disk is as it was
 abbrev pub IsRefusedJournal : Limits → (old new : Shown) → Type 0
-IsRefusedJournal limits old new = ForSome old.disk (λ file. (line : List ℕ) × IsBadLine limits file line × (new ≡ record old { told = option_map (λ told. told ++ line) old.told }))
+IsRefusedJournal limits old new = ForSome old.disk
+    (λ file. (line : List ℕ) × IsBadLine limits file line × (new ≡ record old { told = option_map (λ told. told ++ line) old.told }))
 
 -- how a run ends over a file that stands for no list: with its line, or a front of it, or before it; the disk is as it was
 abbrev pub EndsWithoutList : Limits → (file : List ℕ) → Status → Shown → Shown → Type 0

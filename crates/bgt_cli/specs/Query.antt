@@ -57,7 +57,8 @@ TellsText IsText _ old new = ⊥
 
 -- over a file that stands for messages, the answer from the state that they leave is told
 abbrev pub MeetsQuery : Limits → Query → Status → (old new : Shown) → Type 0
-MeetsQuery limits query status old new = ForSome old.disk (λ file. (messages : List Message) (state : State) → Stands limits file messages state
+MeetsQuery limits query status old new
+    = ForSome old.disk (λ file. (messages : List Message) (state : State) → Stands limits file messages state
     → TellsText (IsAnswer query state) status old new)
 
 -- how a query ends, whatever its file has
@@ -70,6 +71,7 @@ EndsQuery DiskFault old new = new ≡ old
 EndsQuery _ old new = ⊥
 
 -- at no moment of the run might a crash leave a file that it might not have left before, and neither at its end
-pub record LeavesNothingNew {O : Type 0} (leaves : O → List ℕ → Type 0) (clock : O → ℕ) (left : O → ℕ → List ℕ → List ℕ → Type 0) (old new : O) : Type 0 where
+pub record LeavesNothingNew {O : Type 0} (leaves : O → List ℕ → Type 0) (clock : O → ℕ) (left : O → ℕ → List ℕ → List ℕ → Type 0)
+    (old new : O) : Type 0 where
   pub throughout : LeavesOnly clock left old new (λ told image. leaves old image)
   pub at_end : NoneNew (leaves old) (leaves new)

@@ -32,7 +32,8 @@ IsTrial words = (n : ℕ) × AsksTrial words n
 -- from old, the register answers these messages so, one after another, and goes on to new
 unfoldable pub Steps : Limits → State → List Message → List Answer → State → Type 0
 Steps limits old [] [] new = new ≡ old
-Steps limits old (m ∷ messages) (answer ∷ answers) new = (mid : State) × Step limits old m answer mid × Steps limits mid messages answers new
+Steps limits old (m ∷ messages) (answer ∷ answers) new
+    = (mid : State) × Step limits old m answer mid × Steps limits mid messages answers new
 Steps limits old _ _ new = ⊥
 
 -- the empty register answers these messages, and goes on to this state, which counts those that were taken

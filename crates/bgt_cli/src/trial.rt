@@ -55,7 +55,7 @@ fn answer_message(alloc: Global, core: &mut Core, message: &Message) -> Result<A
     ensures step { IfOk result (λ answer. Step core.old.limits core.old.state message.now answer core.new.state) }
     ensures rest { OnOk result (core.new ≡ at_rest core.old.limits core.new.state) }
 {
-    match core.try_message(alloc, message) {
+    match core.try_uncounted(alloc, message) {
         Ok(()) => {
             core.commit();
             Ok(Answer::Taken)

@@ -1,7 +1,7 @@
 //! A square that is cut at random into strips is accepted; with one corner of one strip moved by a millimetre it is refused. The reply
 //! is worked out here from the rule, edge by edge.
 
-use crate::check::checked;
+use crate::runs::checked;
 use std::alloc::{AllocError, Global};
 use std::test::Fail;
 

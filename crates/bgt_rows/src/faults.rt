@@ -1,7 +1,7 @@
 //! A failing call at each place of a run, and an input as long as its limit.
 
-use crate::check::{answered, joined};
 use crate::messages::FIRST;
+use crate::runs::{answered, joined};
 use bgt_cli::{Status, run};
 use message_text::Limits;
 use outside::MemOutside;

@@ -1,6 +1,6 @@
 //! The worked rows of levels and of shared vertices: each text is put together from lines, and has one reply.
 
-use crate::check::{answered, joined};
+use crate::runs::{answered, joined};
 use message_text::Limits;
 use std::test::Fail;
 

@@ -29,10 +29,26 @@ pub single_sound : (ring : List Vertex) → IsSimple ring → WindsBy (pos 1) (r
 single_sound ring s w = one_left_sound (ring ∷ []) ring refl refl (one_simple ring s) w
 
 wound_so : (ring : List Vertex) → IsSimple ring → WindsSome (negsuc 0) (ring_edges ring) → IsShapeNote (ring ∷ []) note.Wound
-wound_so ring s w = (one_simple ring s, one_apart ring, (w.at, subst (λ es. IsWoundWrongly es w.at) (sym (append-nil (ring_edges ring))) (record { off_edges = w.off_edges; not_zero = λ q. omega (arith, linear, q, w.wound); not_one = λ q. omega (arith, linear, q, w.wound) })))
+wound_so ring s w = (
+  one_simple ring s,
+  one_apart ring,
+  (
+    w.at,
+    subst (λ es. IsWoundWrongly es w.at) (sym (append-nil (ring_edges ring))) (record {
+      off_edges = w.off_edges;
+      not_zero = λ q. omega (arith, linear, q, w.wound);
+      not_one = λ q. omega (arith, linear, q, w.wound);
+    }),
+  ),
+)
 
-pub wound_where_right : (ring : List Vertex) (turn : Turn) → IsSimple ring → TurnsAtLeast ring turn → IsShapeNote (ring ∷ []) note.Wound ↔ (turn ≡ Right)
-wound_where_right ring Left s t = (λ w. absurd (sound_no_note (ring ∷ []) note.Wound (single_sound ring s (runs_so ring s.corners s.in_turn t).0) w), λ q. absurd (other q))
+pub wound_where_right : (ring : List Vertex) (turn : Turn) → IsSimple ring → TurnsAtLeast ring turn → IsShapeNote (ring ∷ []) note.Wound
+    ↔ (turn ≡ Right)
+wound_where_right ring Left s t = (
+  λ w. absurd
+      (sound_no_note (ring ∷ []) note.Wound (single_sound ring s (runs_so ring s.corners s.in_turn t).0) w),
+  λ q. absurd (other q),
+)
   where
     is_left : Turn → Bool
     is_left Left = true
@@ -45,6 +61,8 @@ wound_where_right ring Straight s t = never_on ring s.corners s.in_turn t
 wound_where_right ring Right s t = (λ _. refl, λ _. wound_so ring s (runs_back ring s.corners s.in_turn t).1)
 
 -- what the code has put into a list
-pub single_built : (ring item held seen : List Vertex) (before after : List (List Vertex)) → after ≡ before ++ item ∷ [] → before ≡ [] → item ≡ ring → held ≡ ring → seen ≡ ring → HasCorners held × MeetsInTurn held → WindsBy (pos 1) (ring_edges seen) → IsSoundShape after
-single_built ring item held seen before after q b i h s k w = subst IsSoundShape (sym (q ∙ (ap (λ l. l ++ item ∷ []) b ∙ ap (λ r. r ∷ []) i)))
+pub single_built : (ring item held seen : List Vertex) (before after : List (List Vertex)) → after ≡ before ++ item ∷ [] → before ≡ []
+    → item ≡ ring → held ≡ ring → seen ≡ ring → HasCorners held × MeetsInTurn held → WindsBy (pos 1) (ring_edges seen) → IsSoundShape after
+single_built ring item held seen before after q b i h s k w
+    = subst IsSoundShape (sym (q ∙ (ap (λ l. l ++ item ∷ []) b ∙ ap (λ r. r ∷ []) i)))
     (single_sound ring (record { corners = (rw h at k).0; in_turn = (rw h at k).1 }) (subst (λ r. WindsBy (pos 1) (ring_edges r)) s w))

@@ -23,19 +23,26 @@ pub of_shape : (s : List (List Vertex)) → IsSoundShape s → AreOfShape (shape
 of_shape s h = record { joined = shape_joined s (sound_simple s h) h.apart; balanced = shape_balance s; wound = h.wound }
 
 -- a box of the corners holds the edges
-rings_held : (box : Box) (rings : List (List Vertex)) → AllByRecursion (λ v. LiesInBox box (point_of v)) (corners_of rings) → AllByRecursion (HoldsEdge box) (shape_edges rings)
+rings_held : (box : Box) (rings : List (List Vertex)) → AllByRecursion (λ v. LiesInBox box (point_of v)) (corners_of rings)
+    → AllByRecursion (HoldsEdge box) (shape_edges rings)
 rings_held box [] h = tt
-rings_held box (ring ∷ rings) h = all_join (HoldsEdge box) (ring_edges ring) (shape_edges rings) (ends_of (λ v. LiesInBox box (point_of v)) ring (all_left (λ v. LiesInBox box (point_of v)) ring (corners_of rings) h))
+rings_held box (ring ∷ rings) h = all_join (HoldsEdge box) (ring_edges ring) (shape_edges rings)
+    (ends_of (λ v. LiesInBox box (point_of v)) ring (all_left (λ v. LiesInBox box (point_of v)) ring (corners_of rings) h))
     (rings_held box rings (all_right (λ v. LiesInBox box (point_of v)) ring (corners_of rings) h))
 
 shape_held : (box : Box) (rings : List (List Vertex)) → IsLeastBox (corners_of rings) box → HoldsEdges box (shape_edges rings)
-shape_held box rings l = All-from_recursion (HoldsEdge box) (shape_edges rings) (rings_held box rings (recursion_from_All (λ v. LiesInBox box (point_of v)) (corners_of rings) l.holds))
+shape_held box rings l = All-from_recursion (HoldsEdge box) (shape_edges rings)
+    (rings_held box rings (recursion_from_All (λ v. LiesInBox box (point_of v)) (corners_of rings) l.holds))
 
 -- shapes that share a point have boxes that meet
-pub boxes_common : (box other : Box) (s t : List (List Vertex)) → IsLeastBox (corners_of s) box → IsLeastBox (corners_of t) other → Share (shape_edges s) (shape_edges t) → HaveCommonPoint box other
-boxes_common box other s t l m k = boxes_share box other (shape_edges s) (shape_edges t) (shape_held box s l) (shape_held other t m) (shape_balance s) (shape_balance t) k
+pub boxes_common : (box other : Box) (s t : List (List Vertex)) → IsLeastBox (corners_of s) box → IsLeastBox (corners_of t) other
+    → Share (shape_edges s) (shape_edges t) → HaveCommonPoint box other
+boxes_common box other s t l m k
+    = boxes_share box other (shape_edges s) (shape_edges t) (shape_held box s l) (shape_held other t m) (shape_balance s) (shape_balance t)
+    k
 
-pub shapes_apart : (box other : Box) (s t : List (List Vertex)) → IsLeastBox (corners_of s) box → IsLeastBox (corners_of t) other → (HaveCommonPoint box other → ⊥) → Share (shape_edges s) (shape_edges t) → ⊥
+pub shapes_apart : (box other : Box) (s t : List (List Vertex)) → IsLeastBox (corners_of s) box → IsLeastBox (corners_of t) other
+    → (HaveCommonPoint box other → ⊥) → Share (shape_edges s) (shape_edges t) → ⊥
 shapes_apart box other s t l m n k = n (boxes_common box other s t l m k)
 
 -- ---- shapes that share no point are apart, and the other way round
@@ -56,7 +63,8 @@ apart_from s t n p os ot = elim (cases_Bool (covers p s)) [
 ]
 
 pub apart_shares_not : (s t : List (List Vertex)) → AreasApart (s ∷ []) (t ∷ []) → Share (shape_edges s) (shape_edges t) → ⊥
-apart_shares_not s t a k = both_ways (covers_any k.0 (s ∷ []) && covers_any k.0 (t ∷ [])) (a k.0 (one_off k.0 s k.1.off_first) (one_off k.0 t k.1.off_second)) both
+apart_shares_not s t a k = both_ways (covers_any k.0 (s ∷ []) && covers_any k.0 (t ∷ []))
+    (a k.0 (one_off k.0 s k.1.off_first) (one_off k.0 t k.1.off_second)) both
   where
     both : (covers_any k.0 (s ∷ []) && covers_any k.0 (t ∷ [])) ≡ true
     both = let x : covers k.0 s ≡ true = k.1.in_first in let y : covers k.0 t ≡ true = k.1.in_second in rw (x, y) refl

@@ -21,3 +21,5 @@ mod shapes;
 mod sharing;
 #[cfg(test)]
 mod singles;
+#[cfg(test)]
+mod turns;

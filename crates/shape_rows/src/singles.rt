@@ -7,7 +7,7 @@ use ring_simple::RingFault;
 use std::alloc::Global;
 
 // The fault of a ring by itself, none where it is a shape of one ring. Want of memory is an error.
-fn fault_of(alloc: Global, ring: &Ring) -> Result<Option<SingleFault>, NoMemory> {
+pub fn fault_of(alloc: Global, ring: &Ring) -> Result<Option<SingleFault>, NoMemory> {
     if ring.len() >= 1 << 32 {
         return Err(NoMemory);
     }

@@ -10,4 +10,5 @@ returns-clause-check c = λ limits input told n ends old new within g e.
 pub returns-clause-load : goal.returns-clause-load
 returns-clause-load c = λ limits file first kept state input told n gate ends old new stands within g e.
     by_load limits (c.run_stays_tiled.ensures limits) input n within (λ k t. GoesWithDisk k t old new) state
-    (held_good c.step_is_good.ensures limits opening stands.payloads first state c.opening_is_good.ensures stands.holds) told kept gate ends g e
+    (held_good c.step_is_good.ensures limits opening stands.payloads first state c.opening_is_good.ensures stands.holds) told kept gate ends
+    g e

@@ -40,7 +40,8 @@ loop-message-preserved c =
     let new = c.answer_message.new.core in
     let same = ap (λ (v : CoreView). v.limits) so_far.rest in
     let step = subst (λ (l : Limits). Step l old.state m c.in-Ok.field-0 new.state) same c.in-Ok.ensures.step in
-    let more = take_more messages index m c.loop-message-test.true ∙ ap (λ (x : Message). take index messages ++ x ∷ []) (sym c.message-item.is) in
+    let more = take_more messages index m c.loop-message-test.true ∙ ap (λ (x : Message). take index messages ++ x ∷ [])
+    (sym c.message-item.is) in
     record {
       rest = c.in-Ok.ensures.rest ∙ ap (λ (l : Limits). at_rest l new.state) same;
       left = subst (λ (ms : List Message). IsLeftBy limits ms new.state) (sym more)

@@ -13,11 +13,13 @@ use Rattle.bgt_cli.proofs.trial.trial_text.Goals as goal
 
 pub answer_messages-requires-clause-counted : goal.answer_messages-requires-clause-counted
 answer_messages-requires-clause-counted c =
-    subst (λ (ms : List Message). All IsCounted ms) (sym (c.as_slice.ensures ∙ c.in-Ok.ensures.made.1)) (made_counted c.args.size c.requires.size)
+    subst (λ (ms : List Message). All IsCounted ms) (sym (c.as_slice.ensures ∙ c.in-Ok.ensures.made.1))
+    (made_counted c.args.size c.requires.size)
 
 pub overflow_sub-refused : goal.overflow_sub-refused
 overflow_sub-refused c =
-    let few = taken_few c.new-core.result.limits c.as_slice.result.now c.answer_messages.new.core.state c.in-Ok-answer_messages.ensures.steps in
+    let few
+    = taken_few c.new-core.result.limits c.as_slice.result.now c.answer_messages.new.core.state c.in-Ok-answer_messages.ensures.steps in
     omega (arith, few, c.accepted-accepted.ensures, c.len.ensures, ap length c.as_slice.ensures)
 
 pub returns : goal.returns
@@ -28,6 +30,7 @@ returns c =
     let left = subst (λ (l : Limits). IsLeftBy l messages state) (ap (λ (v : CoreView). v.limits) c.new-core.ensures.value)
     c.in-Ok-answer_messages.ensures.steps in
     tells_trial c.args.limits.now c.args.size accepted (c.len.result - accepted) c.objects-objects.result c.count-versions.result
-    (string_bytes c.in-Ok-format.text) messages state (c.as_slice.ensures ∙ c.in-Ok.ensures.made.1) left c.in-Ok-format.ensures.ok c.accepted-accepted.ensures
+    (string_bytes c.in-Ok-format.text) messages state (c.as_slice.ensures ∙ c.in-Ok.ensures.made.1) left c.in-Ok-format.ensures.ok
+    c.accepted-accepted.ensures
     (ap (λ (k : ℕ). k - accepted) (c.len.ensures ∙ sym (ap length c.as_slice.ensures))) c.objects-objects.ensures
     (c.count-versions.ensures ∙ ap (λ (vs : List Version). length vs) c.history.ensures.versions)

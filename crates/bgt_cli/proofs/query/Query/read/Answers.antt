@@ -12,19 +12,23 @@ none = record { ref_ptr = (0, 0); now = [] }
 
 pub returns-in-state : goal.returns-in-state
 returns-in-state c =
-    state_found c.args.words.now none c.read_state.result c.in-state.len_at_least c.in-state.len_below c.in-state.is-state c.read_state.ensures
+    state_found c.args.words.now none c.read_state.result c.in-state.len_at_least c.in-state.len_below c.in-state.is-state
+    c.read_state.ensures
 
 pub returns-in-history : goal.returns-in-history
 returns-in-history c =
-    history_found c.args.words.now none c.read_history.result c.in-history.len_at_least c.in-history.len_below c.in-history.is-history c.read_history.ensures
+    history_found c.args.words.now none c.read_history.result c.in-history.len_at_least c.in-history.len_below c.in-history.is-history
+    c.read_history.ensures
 
 pub returns-in-export : goal.returns-in-export
 returns-in-export c =
-    export_found c.args.words.now none c.read_export.result c.in-export.len_at_least c.in-export.len_below c.in-export.is-export c.read_export.ensures
+    export_found c.args.words.now none c.read_export.result c.in-export.len_at_least c.in-export.len_below c.in-export.is-export
+    c.read_export.ensures
 
 pub returns-in-point : goal.returns-in-point
 returns-in-point c =
-    point_found c.args.words.now none c.read_point.result c.in-point.len_at_least c.in-point.len_below c.in-point.is-point c.read_point.ensures
+    point_found c.args.words.now none c.read_point.result c.in-point.len_at_least c.in-point.len_below c.in-point.is-point
+    c.read_point.ensures
 
 pub returns-in_default : goal.returns-in_default
 returns-in_default c =

@@ -1,10 +1,10 @@
 //! The worked rows of `export`: a neighbourhood that is loaded, changed, exported and loaded again, and exports at other moments.
 
-use crate::check::joined;
-use crate::messages::{BENT, FIRST, HALVES, OTHER};
 use crate::neighbourhood::{AREA, BUILD, NORTH, SHED, SOUTH, YARD, YARD_WITH_SHED};
 use crate::queries::{LEFT_ALONE, STRAIGHT, asked, kept};
 use bgt_cli::{Status, run};
+use bgt_rows::messages::{BENT, FIRST, HALVES, OTHER};
+use bgt_rows::runs::joined;
 use message_text::Limits;
 use outside::MemOutside;
 use std::alloc::Global;

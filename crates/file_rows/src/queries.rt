@@ -1,8 +1,8 @@
 //! The worked rows of the queries: what `state`, `history` and `point` tell of a file, and how they end.
 
-use crate::check::joined;
-use crate::messages::{BENT, BESIDE, CORNER, FIRST, HALVES, OTHER, PINCHED};
 use bgt_cli::{Status, run};
+use bgt_rows::messages::{BENT, BESIDE, CORNER, FIRST, HALVES, OTHER, PINCHED};
+use bgt_rows::runs::joined;
 use message_text::Limits;
 use outside::MemOutside;
 use std::alloc::Global;
