@@ -53,72 +53,99 @@ code_concerns h v e = or_first (bytes_eq (holder_of v.ident) h) (bytes_eq v.hold
 
 -- an identification with the holder's code
 ident_concerns : (h ident : List ℕ) → holder_of ident ≡ h → (v : Version) → has_ident ident v ≡ true → concerns h v ≡ true
-ident_concerns h ident q v e = code_concerns h v ((bytes_eq-Decides (holder_of v.ident) h).1 (ap (λ (i : List ℕ). holder_of i) ((bytes_eq-Decides v.ident ident).0 e) ∙ q))
+ident_concerns h ident q v e = code_concerns h v
+    ((bytes_eq-Decides (holder_of v.ident) h).1 (ap (λ (i : List ℕ). holder_of i) ((bytes_eq-Decides v.ident ident).0 e) ∙ q))
 
 module _ (h : List ℕ) (s t : State) (a : AgreeOn h s t) where
   pub same_current : (ident : List ℕ) → holder_of ident ≡ h → current_of ident s.versions ≡ current_of ident t.versions
-  same_current ident q = same-find (is_current_of ident) (concerns h) (λ v e. ident_concerns h ident q v (and_parts (has_ident ident v) (is_current v) e).0) s.versions t.versions a.versions
+  same_current ident q = same-find (is_current_of ident) (concerns h)
+      (λ v e. ident_concerns h ident q v (and_parts (has_ident ident v) (is_current v) e).0) s.versions t.versions a.versions
 
   pub same_last : (ident : List ℕ) → holder_of ident ≡ h → last_of ident s.versions ≡ last_of ident t.versions
   same_last ident q = same-find_last (has_ident ident) (concerns h) (ident_concerns h ident q) s.versions t.versions a.versions
 
   pub same_objects : count_by (is_object_of h) s.versions ≡ count_by (is_object_of h) t.versions
-  same_objects = same-count (is_object_of h) (concerns h) (λ v e. own_concerns h v (and_parts (bytes_eq v.holder h) (is_current v) e).0) s.versions t.versions a.versions
+  same_objects = same-count (is_object_of h) (concerns h) (λ v e. own_concerns h v (and_parts (bytes_eq v.holder h) (is_current v) e).0)
+      s.versions t.versions a.versions
 
   same_parts : parts_now h s.versions ≡ parts_now h t.versions
-  same_parts = ap (λ (l : List Version). map part_of l) (same-filter (is_object_of h) (concerns h) (λ v e. own_concerns h v (and_parts (bytes_eq v.holder h) (is_current v) e).0) s.versions t.versions a.versions)
+  same_parts = ap (λ (l : List Version). map part_of l) (same-filter (is_object_of h) (concerns h)
+      (λ v e. own_concerns h v (and_parts (bytes_eq v.holder h) (is_current v) e).0) s.versions t.versions a.versions)
 
   same_parts_at : (moment : ℤ) → parts_at moment h s.versions ≡ parts_at moment h t.versions
-  same_parts_at moment = ap (λ (l : List Version). map part_of l) (same-filter (is_object_at moment h) (concerns h) (λ v e. own_concerns h v (and_parts (bytes_eq v.holder h) (holds_at moment v.since v.until) e).0) s.versions t.versions a.versions)
+  same_parts_at moment = ap (λ (l : List Version). map part_of l) (same-filter (is_object_at moment h) (concerns h)
+      (λ v e. own_concerns h v (and_parts (bytes_eq v.holder h) (holds_at moment v.since v.until) e).0) s.versions t.versions
+      a.versions)
 
   same_area : area_of h s.areas ≡ area_of h t.areas
-  same_area = ap (λ (o : Option AreaVersion). unwrap_or (option_map (λ (x : AreaVersion). x.shapes) o) []) (same-find (is_area_of h) (is_area_version h) (λ x e. (and_parts (bytes_eq x.holder h) (is_none x.until) e).0) s.areas t.areas a.areas)
+  same_area = ap (λ (o : Option AreaVersion). unwrap_or (option_map (λ (x : AreaVersion). x.shapes) o) []) (same-find (is_area_of h)
+      (is_area_version h) (λ x e. (and_parts (bytes_eq x.holder h) (is_none x.until) e).0) s.areas t.areas a.areas)
 
   same_area_at : (moment : ℤ) → area_at moment h s.areas ≡ area_at moment h t.areas
-  same_area_at moment = ap (λ (o : Option AreaVersion). unwrap_or (option_map (λ (x : AreaVersion). x.shapes) o) []) (same-find (is_area_at moment h) (is_area_version h) (λ x e. (and_parts (bytes_eq x.holder h) (holds_at moment x.since x.until) e).0) s.areas t.areas a.areas)
+  same_area_at moment
+      = ap (λ (o : Option AreaVersion). unwrap_or (option_map (λ (x : AreaVersion). x.shapes) o) []) (same-find (is_area_at moment h)
+      (is_area_version h) (λ x e. (and_parts (bytes_eq x.holder h) (holds_at moment x.since x.until) e).0) s.areas t.areas a.areas)
 
   pub same_now : map_now h s ≡ map_now h t
   same_now = same_map (area_of h s.areas) (area_of h t.areas) (parts_now h s.versions) (parts_now h t.versions) same_area same_parts
 
   pub look_alike : LookAlike h s t
   look_alike = record {
-    maps = λ moment. same_map (area_at moment h s.areas) (area_at moment h t.areas) (parts_at moment h s.versions) (parts_at moment h t.versions) (same_area_at moment) (same_parts_at moment);
+    maps = λ moment. same_map (area_at moment h s.areas) (area_at moment h t.areas) (parts_at moment h s.versions)
+        (parts_at moment h t.versions) (same_area_at moment) (same_parts_at moment);
     versions = same-filter (is_version_of h) (concerns h) (own_concerns h) s.versions t.versions a.versions;
     areas = a.areas;
   }
 
 -- ---- one message
 pub touched-concerns : (h : List ℕ) (moment : ℤ) (ms : List Mutation) (v : Version) → concerns h (touched_by moment ms v) ≡ concerns h v
-touched-concerns h moment ms v = ap (λ (i : List ℕ). bytes_eq (holder_of i) h || bytes_eq (touched_by moment ms v).holder h) (touched-ident moment ms v) ∙ ap (λ (o : List ℕ). bytes_eq (holder_of v.ident) h || bytes_eq o h) (touched-holder moment ms v)
+touched-concerns h moment ms v = ap (λ (i : List ℕ). bytes_eq (holder_of i) h || bytes_eq (touched_by moment ms v).holder h)
+    (touched-ident moment ms v) ∙ ap (λ (o : List ℕ). bytes_eq (holder_of v.ident) h || bytes_eq o h) (touched-holder moment ms v)
 
-versions_then : (h holder : List ℕ) (moment : ℤ) (ms : List Mutation) (vs : List Version) → filter (concerns h) (versions_after holder moment ms vs) ≡ map (touched_by moment ms) (filter (concerns h) vs) ++ filter (concerns h) (flat_map (begun holder moment) ms)
+versions_then : (h holder : List ℕ) (moment : ℤ) (ms : List Mutation) (vs : List Version)
+    → filter (concerns h) (versions_after holder moment ms vs) ≡ map (touched_by moment ms) (filter (concerns h) vs) ++ filter (concerns h)
+    (flat_map (begun holder moment) ms)
 versions_then h holder moment ms vs = filter-append (concerns h) (map (touched_by moment ms) vs) (flat_map (begun holder moment) ms)
-    ∙ ap (λ (l : List Version). l ++ filter (concerns h) (flat_map (begun holder moment) ms)) (filter-map (concerns h) (touched_by moment ms) (touched-concerns h moment ms) vs)
+    ∙ ap (λ (l : List Version). l ++ filter (concerns h) (flat_map (begun holder moment) ms))
+    (filter-map (concerns h) (touched_by moment ms) (touched-concerns h moment ms) vs)
 
-pub ended-version : (h holder : List ℕ) (moment : ℤ) (x : AreaVersion) → is_area_version h (area_ended holder moment x) ≡ is_area_version h x
+pub ended-version : (h holder : List ℕ) (moment : ℤ) (x : AreaVersion)
+    → is_area_version h (area_ended holder moment x) ≡ is_area_version h x
 ended-version h holder moment x = ap (λ (o : List ℕ). bytes_eq o h) (same_holder holder moment x)
 
-areas_then : (h holder : List ℕ) (moment : ℤ) (shapes : Shapes) (areas : List AreaVersion) → filter (is_area_version h) (areas_after holder moment (Some shapes) areas) ≡ map (area_ended holder moment) (filter (is_area_version h) areas) ++ filter (is_area_version h) (new_area holder moment shapes ∷ [])
-areas_then h holder moment shapes areas = filter-append (is_area_version h) (map (area_ended holder moment) areas) (new_area holder moment shapes ∷ [])
-    ∙ ap (λ (l : List AreaVersion). l ++ filter (is_area_version h) (new_area holder moment shapes ∷ [])) (filter-map (is_area_version h) (area_ended holder moment) (ended-version h holder moment) areas)
+areas_then : (h holder : List ℕ) (moment : ℤ) (shapes : Shapes) (areas : List AreaVersion)
+    → filter (is_area_version h) (areas_after holder moment (Some shapes) areas) ≡ map (area_ended holder moment)
+    (filter (is_area_version h) areas) ++ filter (is_area_version h) (new_area holder moment shapes ∷ [])
+areas_then h holder moment shapes areas
+    = filter-append (is_area_version h) (map (area_ended holder moment) areas) (new_area holder moment shapes ∷ [])
+    ∙ ap (λ (l : List AreaVersion). l ++ filter (is_area_version h) (new_area holder moment shapes ∷ []))
+    (filter-map (is_area_version h) (area_ended holder moment) (ended-version h holder moment) areas)
 
-same_areas_then : (h holder : List ℕ) (moment : ℤ) (area : Option Shapes) (xs ys : List AreaVersion) → filter (is_area_version h) xs ≡ filter (is_area_version h) ys → filter (is_area_version h) (areas_after holder moment area xs) ≡ filter (is_area_version h) (areas_after holder moment area ys)
+same_areas_then : (h holder : List ℕ) (moment : ℤ) (area : Option Shapes) (xs ys : List AreaVersion)
+    → filter (is_area_version h) xs ≡ filter (is_area_version h) ys
+    → filter (is_area_version h) (areas_after holder moment area xs) ≡ filter (is_area_version h) (areas_after holder moment area ys)
 same_areas_then h holder moment None xs ys e = e
 same_areas_then h holder moment (Some shapes) xs ys e = areas_then h holder moment shapes xs
-    ∙ ap (λ (l : List AreaVersion). map (area_ended holder moment) l ++ filter (is_area_version h) (new_area holder moment shapes ∷ [])) e ∙ sym (areas_then h holder moment shapes ys)
+    ∙ ap (λ (l : List AreaVersion). map (area_ended holder moment) l ++ filter (is_area_version h) (new_area holder moment shapes ∷ []))
+    e ∙ sym (areas_then h holder moment shapes ys)
 
-same_moment_then : (h holder : List ℕ) (moment : ℤ) (xs ys : List LastMessage) → moment_of h xs ≡ moment_of h ys → moment_of h (last_after holder moment xs) ≡ moment_of h (last_after holder moment ys)
+same_moment_then : (h holder : List ℕ) (moment : ℤ) (xs ys : List LastMessage) → moment_of h xs ≡ moment_of h ys
+    → moment_of h (last_after holder moment xs) ≡ moment_of h (last_after holder moment ys)
 same_moment_then h holder moment xs ys e = elim (cases_Bool (bytes_eq holder h)) [
   | inl k ↦ let q : holder ≡ h = (bytes_eq-Decides holder h).0 k in own h q
-  | inr k ↦ let d : h ≢ holder = λ q. both_ways (bytes_eq holder h) k ((bytes_eq-Decides holder h).1 (sym q)) in moment_of_others holder h moment xs d ∙ e ∙ sym (moment_of_others holder h moment ys d)
+  | inr k ↦ let d : h ≢ holder = λ q. both_ways (bytes_eq holder h) k ((bytes_eq-Decides holder h).1 (sym q)) in moment_of_others holder h
+      moment xs d ∙ e ∙ sym (moment_of_others holder h moment ys d)
 ]
   where
     own : (g : List ℕ) → holder ≡ g → moment_of g (last_after holder moment xs) ≡ moment_of g (last_after holder moment ys)
-    own g q = ap (λ (i : List ℕ). moment_of i (last_after holder moment xs)) (sym q) ∙ moment_after holder moment xs ∙ sym (moment_after holder moment ys) ∙ ap (λ (i : List ℕ). moment_of i (last_after holder moment ys)) q
+    own g q = ap (λ (i : List ℕ). moment_of i (last_after holder moment xs)) (sym q) ∙ moment_after holder moment
+        xs ∙ sym (moment_after holder moment ys) ∙ ap (λ (i : List ℕ). moment_of i (last_after holder moment ys)) q
 
 pub agree_after : (h : List ℕ) (s t : State) (m : Message) → AgreeOn h s t → AgreeOn h (after s m) (after t m)
 agree_after h s t m a = record {
-  versions = versions_then h m.holder m.moment m.mutations s.versions ∙ ap (λ (l : List Version). map (touched_by m.moment m.mutations) l ++ filter (concerns h) (flat_map (begun m.holder m.moment) m.mutations)) a.versions ∙ sym (versions_then h m.holder m.moment m.mutations t.versions);
+  versions = versions_then h m.holder m.moment m.mutations s.versions ∙ ap (λ (l : List Version). map (touched_by m.moment m.mutations)
+      l ++ filter (concerns h) (flat_map (begun m.holder m.moment) m.mutations))
+      a.versions ∙ sym (versions_then h m.holder m.moment m.mutations t.versions);
   areas = same_areas_then h m.holder m.moment m.area s.areas t.areas a.areas;
   last = same_moment_then h m.holder m.moment s.last t.last a.last;
 }

@@ -64,11 +64,14 @@ up_both m (Some u) t h l = most u t m h l
     most : (u t m : ℤ) → u ≤ℤ m → t ≤ℤ m → cond (int_lt u t) t u ≤ℤ m
     most u t m h l = omega (arith, linear, clamps, h, l)
 
-fewer_up : (m : ℤ) (p : AreaVersion → Bool) (xs : List AreaVersion) (o q : Option ℤ) → (UpTo m o → UpTo m q) → UpTo m (fold later o xs) → UpTo m (fold later q (filter p xs))
+fewer_up : (m : ℤ) (p : AreaVersion → Bool) (xs : List AreaVersion) (o q : Option ℤ) → (UpTo m o → UpTo m q) → UpTo m (fold later o xs)
+    → UpTo m (fold later q (filter p xs))
 fewer_up m p [] o q f h = f h
 fewer_up m p (x ∷ xs) o q f h = elim (cases_Bool (p x)) [
-  | inl t ↦ subst (λ (b : Bool). UpTo m (fold later q (cond b (x ∷ filter p xs) (filter p xs)))) (sym t) (fewer_up m p xs (later o x) (later q x) (λ k. let both = both_up m o x.since k in up_both m q x.since (f both.0) both.1) h)
-  | inr t ↦ subst (λ (b : Bool). UpTo m (fold later q (cond b (x ∷ filter p xs) (filter p xs)))) (sym t) (fewer_up m p xs (later o x) q (λ k. f (both_up m o x.since k).0) h)
+  | inl t ↦ subst (λ (b : Bool). UpTo m (fold later q (cond b (x ∷ filter p xs) (filter p xs)))) (sym t)
+      (fewer_up m p xs (later o x) (later q x) (λ k. let both = both_up m o x.since k in up_both m q x.since (f both.0) both.1) h)
+  | inr t ↦ subst (λ (b : Bool). UpTo m (fold later q (cond b (x ∷ filter p xs) (filter p xs)))) (sym t)
+      (fewer_up m p xs (later o x) q (λ k. f (both_up m o x.since k).0) h)
 ]
 
 not_early : (m : ℤ) (o : Option ℤ) → None ≡ earlier m o → UpTo m o
@@ -92,7 +95,8 @@ room_less true n k l c h e = let lt : k < n = leb-false n k (fails (nat_le n k) 
     fails true e = cc
     fails false e = refl
 
-last_length : (h : List ℕ) (moment : ℤ) (last : List LastMessage) → length (last_after h moment last) ≡ cond (is_none (moment_of h last)) (length last + 1) (length last)
+last_length : (h : List ℕ) (moment : ℤ) (last : List LastMessage)
+    → length (last_after h moment last) ≡ cond (is_none (moment_of h last)) (length last + 1) (length last)
 last_length h moment [] = refl
 last_length h moment (l ∷ last) = elim (cases_Bool (bytes_eq l.holder h)) [
   | inl t ↦ rw t refl
@@ -118,59 +122,91 @@ pub record IsAlone (h : List ℕ) (s t : State) : Type 0 where
 
 kept_all : {X : Type 0} (p : X → Bool) (xs : List X) → All (λ x. p x ≡ true) xs → filter p xs ≡ xs
 kept_all p [] a = refl
-kept_all {X} p (x ∷ xs) a = ap (λ (b : Bool). cond b (x ∷ filter p xs) (filter p xs)) (All-head (λ y. p y ≡ true) x xs a) ∙ ap (λ (l : List X). x ∷ l) (kept_all p xs (All-tail (λ y. p y ≡ true) x xs a))
+kept_all {X} p (x ∷ xs) a = ap (λ (b : Bool). cond b (x ∷ filter p xs) (filter p xs))
+    (All-head (λ y. p y ≡ true) x xs a) ∙ ap (λ (l : List X). x ∷ l) (kept_all p xs (All-tail (λ y. p y ≡ true) x xs a))
 
-no_other : (h k : List ℕ) (areas : List AreaVersion) → k ≢ h → All (λ (a : AreaVersion). is_area_version h a ≡ true) areas → find (is_area_of k) areas ≡ None
+no_other : (h k : List ℕ) (areas : List AreaVersion) → k ≢ h → All (λ (a : AreaVersion). is_area_version h a ≡ true) areas
+    → find (is_area_of k) areas ≡ None
 no_other h k [] d a = refl
 no_other h k (x ∷ areas) d a =
-    let n : bytes_eq x.holder k ≡ false = differs x.holder k (λ q. d (sym q ∙ (bytes_eq-Decides x.holder h).0 (All-head (λ (y : AreaVersion). is_area_version h y ≡ true) x areas a))) in
-    ap (λ (b : Bool). cond (b && is_none x.until) (Some x) (find (is_area_of k) areas)) n ∙ no_other h k areas d (All-tail (λ (y : AreaVersion). is_area_version h y ≡ true) x areas a)
+    let n : bytes_eq x.holder k ≡ false = differs x.holder k
+    (λ q. d (sym q ∙ (bytes_eq-Decides x.holder h).0 (All-head (λ (y : AreaVersion). is_area_version h y ≡ true) x areas a))) in
+    ap (λ (b : Bool). cond (b && is_none x.until) (Some x) (find (is_area_of k) areas)) n ∙ no_other h k areas d
+    (All-tail (λ (y : AreaVersion). is_area_version h y ≡ true) x areas a)
 
-module _ (limits : Limits) (s t : State) (m : Message) (a : AgreeOn m.holder s t) (alone : IsAlone m.holder s t) (l : IsLocal m.holder m) where
-  areas_are : filter (is_area_version m.holder) s.areas ≡ t.areas
-  areas_are = a.areas ∙ kept_all (is_area_version m.holder) t.areas alone.areas
+module _ (limits : Limits) (s t : State) (m : Message) (a : AgreeOn m.holder s t) (alone : IsAlone m.holder s t) (l : IsLocal m.holder m)
+  where
+    areas_are : filter (is_area_version m.holder) s.areas ≡ t.areas
+    areas_are = a.areas ∙ kept_all (is_area_version m.holder) t.areas alone.areas
 
-  not_stale : (area : Option Shapes) → None ≡ cond (is_some area) (earlier m.moment (newest_area s.areas)) None → None ≡ cond (is_some area) (earlier m.moment (newest_area t.areas)) None
-  not_stale None e = refl
-  not_stale (Some shapes) e = early_not m.moment (newest_area t.areas) (subst (λ (xs : List AreaVersion). UpTo m.moment (newest_area xs)) areas_are (fewer_up m.moment (is_area_version m.holder) s.areas None None (λ u. u) (not_early m.moment (newest_area s.areas) e)))
+    not_stale : (area : Option Shapes) → None ≡ cond (is_some area) (earlier m.moment (newest_area s.areas)) None
+        → None ≡ cond (is_some area) (earlier m.moment (newest_area t.areas)) None
+    not_stale None e = refl
+    not_stale (Some shapes) e = early_not m.moment (newest_area t.areas) (subst (λ (xs : List AreaVersion). UpTo m.moment (newest_area xs))
+        areas_are (fewer_up m.moment (is_area_version m.holder) s.areas None None (λ u. u) (not_early m.moment (newest_area s.areas) e)))
 
-  keeps_areas : (area : Option Shapes) → AreaRule s.areas m.holder area None → AreaRule t.areas m.holder area None
-  keeps_areas None e = e
-  keeps_areas (Some shapes) e = record {
-    sound = e.sound;
-    apart = λ k d. subst (λ (o : Option AreaVersion). AreApart shapes (unwrap_or (option_map (λ (x : AreaVersion). x.shapes) o) [])) (sym (no_other m.holder k t.areas d alone.areas)) (apart_from_none shapes);
-  }
+    keeps_areas : (area : Option Shapes) → AreaRule s.areas m.holder area None → AreaRule t.areas m.holder area None
+    keeps_areas None e = e
+    keeps_areas (Some shapes) e = record {
+      sound = e.sound;
+      apart = λ k d. subst (λ (o : Option AreaVersion). AreApart shapes (unwrap_or (option_map (λ (x : AreaVersion). x.shapes) o) []))
+          (sym (no_other m.holder k t.areas d alone.areas)) (apart_from_none shapes);
+    }
 
-  agree_then_after : AgreeOn m.holder (after s m) (after t m)
-  agree_then_after = agree_after m.holder s t m a
+    agree_then_after : AgreeOn m.holder (after s m) (after t m)
+    agree_then_after = agree_after m.holder s t m a
 
-  pub taken_alone : Judged limits s m None → Judged limits t m None
-  taken_alone h = (
-    (h.0.0 ∙ ap (not_later m.moment) a.last, (not_stale m.area h.0.1.0, mutations_give m s.versions t.versions (same_current m.holder s t a) (same_last m.holder s t a) [] m.mutations (own_names m.holder m refl l) None h.0.1.1)),
-    (
-      room_less (is_none (moment_of m.holder t.last)) limits.holders (length s.last) (length t.last) no_holder_more alone.few (h.1.0 ∙ ap (λ (o : Option ℤ). when (is_none o && nat_le limits.holders (length s.last)) no_holder_more None) a.last),
+    pub taken_alone : Judged limits s m None → Judged limits t m None
+    taken_alone h = (
       (
-        h.1.1.0 ∙ ap (λ (n : ℕ). when (nat_lt limits.objects n) (by_rule (refusal.Full Objects)) None) (same_objects m.holder (after s m) (after t m) agree_then_after),
-        (keeps_areas m.area h.1.1.1.0, subst (λ (parts : HolderParts). MapRule parts None) (same_now m.holder (after s m) (after t m) agree_then_after) h.1.1.1.1),
+        h.0.0 ∙ ap (not_later m.moment) a.last,
+        (
+          not_stale m.area h.0.1.0,
+          mutations_give m s.versions t.versions (same_current m.holder s t a) (same_last m.holder s t a) [] m.mutations
+              (own_names m.holder m refl l) None h.0.1.1,
+        ),
       ),
-    ),
-  )
+      (
+        room_less (is_none (moment_of m.holder t.last)) limits.holders (length s.last) (length t.last) no_holder_more alone.few
+            (h.1.0 ∙ ap (λ (o : Option ℤ). when (is_none o && nat_le limits.holders (length s.last)) no_holder_more None) a.last),
+        (
+          h.1.1.0 ∙ ap (λ (n : ℕ). when (nat_lt limits.objects n) (by_rule (refusal.Full Objects)) None)
+              (same_objects m.holder (after s m) (after t m) agree_then_after),
+          (
+            keeps_areas m.area h.1.1.1.0,
+            subst (λ (parts : HolderParts). MapRule parts None) (same_now m.holder (after s m) (after t m) agree_then_after) h.1.1.1.1,
+          ),
+        ),
+      ),
+    )
 
-  areas_alone : (area : Option Shapes) → All (λ (x : AreaVersion). is_area_version m.holder x ≡ true) (areas_after m.holder m.moment area t.areas)
-  areas_alone None = alone.areas
-  areas_alone (Some shapes) = All-append (λ (x : AreaVersion). is_area_version m.holder x ≡ true) (map (area_ended m.holder m.moment) t.areas) (new_area m.holder m.moment shapes ∷ [])
-      (all_mapped (λ (x : AreaVersion). is_area_version m.holder x ≡ true) (area_ended m.holder m.moment) t.areas (λ x c. ended-version m.holder m.holder m.moment x ∙ All-contains (λ (y : AreaVersion). is_area_version m.holder y ≡ true) t.areas x alone.areas c))
-      (All-cons (λ (x : AreaVersion). is_area_version m.holder x ≡ true) (new_area m.holder m.moment shapes) [] ((bytes_eq-Decides m.holder m.holder).1 refl) (All-nil (λ (x : AreaVersion). is_area_version m.holder x ≡ true)))
+    areas_alone : (area : Option Shapes)
+        → All (λ (x : AreaVersion). is_area_version m.holder x ≡ true) (areas_after m.holder m.moment area t.areas)
+    areas_alone None = alone.areas
+    areas_alone (Some shapes) = All-append (λ (x : AreaVersion). is_area_version m.holder x ≡ true)
+        (map (area_ended m.holder m.moment) t.areas) (new_area m.holder m.moment shapes ∷ [])
+        (all_mapped (λ (x : AreaVersion). is_area_version m.holder x ≡ true) (area_ended m.holder m.moment) t.areas
+        (λ x c. ended-version m.holder m.holder m.moment x ∙ All-contains (λ (y : AreaVersion). is_area_version m.holder y ≡ true) t.areas
+        x alone.areas c))
+        (All-cons (λ (x : AreaVersion). is_area_version m.holder x ≡ true) (new_area m.holder m.moment shapes) []
+        ((bytes_eq-Decides m.holder m.holder).1 refl) (All-nil (λ (x : AreaVersion). is_area_version m.holder x ≡ true)))
 
-  pub alone_after : IsAlone m.holder (after s m) (after t m)
-  alone_after = record {
-    areas = areas_alone m.area;
-    few = grow_alike (is_none (moment_of m.holder t.last)) (length (last_after m.holder m.moment s.last)) (length s.last) (length (last_after m.holder m.moment t.last)) (length t.last)
-        (last_length m.holder m.moment s.last ∙ ap (λ (o : Option ℤ). cond (is_none o) (length s.last + 1) (length s.last)) a.last) (last_length m.holder m.moment t.last) alone.few;
-  }
+    pub alone_after : IsAlone m.holder (after s m) (after t m)
+    alone_after = record {
+      areas = areas_alone m.area;
+      few = grow_alike (is_none (moment_of m.holder t.last)) (length (last_after m.holder m.moment s.last)) (length s.last)
+          (length (last_after m.holder m.moment t.last)) (length t.last)
+          (last_length m.holder m.moment s.last ∙ ap (λ (o : Option ℤ). cond (is_none o) (length s.last + 1) (length s.last)) a.last)
+          (last_length m.holder m.moment t.last) alone.few;
+    }
 
 alone_still : (h : List ℕ) (s t : State) (m : Message) → IsAlone h s t → IsAlone h (after s m) t
-alone_still h s t m k = record { areas = k.areas; few = more (length t.last) (length s.last) (length (last_after m.holder m.moment s.last)) k.few (grows (is_none (moment_of m.holder s.last)) (length (last_after m.holder m.moment s.last)) (length s.last) (last_length m.holder m.moment s.last)) }
+alone_still h s t m k = record {
+  areas = k.areas;
+  few = more (length t.last) (length s.last) (length (last_after m.holder m.moment s.last)) k.few (grows
+      (is_none (moment_of m.holder s.last)) (length (last_after m.holder m.moment s.last)) (length s.last)
+      (last_length m.holder m.moment s.last));
+}
   where
     more : (i j k : ℕ) → i ≤ j → j ≤ k → i ≤ k
     more i j k l m = omega (arith, l, m)
@@ -182,13 +218,19 @@ pub record IsBeside (h : List ℕ) (s t : State) : Type 0 where
   pub alone : IsAlone h s t
 
 module _ (limits : Limits) (h : List ℕ) where
-  own_step : (s t : State) (m : Message) → AreAtHome h s → IsBeside h s t → IsLocal h m → is_message_of h m ≡ true → Takes limits s m → Takes limits t m × IsBeside h (after s m) (after t m)
+  own_step : (s t : State) (m : Message) → AreAtHome h s → IsBeside h s t → IsLocal h m → is_message_of h m ≡ true → Takes limits s m
+      → Takes limits t m × IsBeside h (after s m) (after t m)
   own_step s t m home b l o j =
       let q : m.holder ≡ h = (bytes_eq-Decides m.holder h).0 o in
       let agree : AgreeOn m.holder s t = subst (λ (i : List ℕ). AgreeOn i s t) (sym q) b.agree in
       let alone : IsAlone m.holder s t = subst (λ (i : List ℕ). IsAlone i s t) (sym q) b.alone in
-      let local : IsLocal m.holder m = subst (λ (i : List ℕ). IsLocal i m) (sym q) l in
-      (taken_alone limits s t m agree alone local j, record { agree = agree_after h s t m b.agree; alone = subst (λ (i : List ℕ). IsAlone i (after s m) (after t m)) q (alone_after limits s t m agree alone local) })
+      let local : IsLocal m.holder m = subst (λ (i : List ℕ). IsLocal i m) (sym q) l in (
+        taken_alone limits s t m agree alone local j,
+        record {
+          agree = agree_after h s t m b.agree;
+          alone = subst (λ (i : List ℕ). IsAlone i (after s m) (after t m)) q (alone_after limits s t m agree alone local);
+        },
+      )
 
   keeps : KeepsBeside (Takes limits) after (IsBeside h) (AreAtHome h) (IsLocal h) (is_message_of h)
   keeps = record {
@@ -200,27 +242,36 @@ module _ (limits : Limits) (h : List ℕ) where
     own = own_step;
   }
 
-  pub alone_replayed : (ms : List Message) (s t : State) → AreAtHome h s → IsBeside h s t → IsReplay limits s ms → All (IsLocal h) ms → IsReplay limits t (own_messages h ms) × IsBeside h (replayed s ms) (replayed t (own_messages h ms))
-  alone_replayed ms s t home b r l = taken_along (Takes limits) after (IsBeside h) (AreAtHome h) (IsLocal h) (is_message_of h) keeps ms s t home b r l
+  pub alone_replayed : (ms : List Message) (s t : State) → AreAtHome h s → IsBeside h s t → IsReplay limits s ms → All (IsLocal h) ms
+      → IsReplay limits t (own_messages h ms) × IsBeside h (replayed s ms) (replayed t (own_messages h ms))
+  alone_replayed ms s t home b r l
+      = taken_along (Takes limits) after (IsBeside h) (AreAtHome h) (IsLocal h) (is_message_of h) keeps ms s t home b r l
 
 -- ---- opened
-pub own_enough : (limits : Limits) (h : List ℕ) (ms : List Message) → IsReplay limits opening ms → All (IsLocal h) ms → IsReplay limits opening (own_messages h ms) × AgreeOn h (replayed opening ms) (replayed opening (own_messages h ms))
+pub own_enough : (limits : Limits) (h : List ℕ) (ms : List Message) → IsReplay limits opening ms → All (IsLocal h) ms
+    → IsReplay limits opening (own_messages h ms) × AgreeOn h (replayed opening ms) (replayed opening (own_messages h ms))
 own_enough limits h ms r l =
-    let k = alone_replayed limits h ms opening opening (All-nil (IsAtHome h)) (record { agree = agree_itself h opening; alone = record { areas = All-nil (λ (a : AreaVersion). is_area_version h a ≡ true); few = omega arith } }) r l in
+    let k = alone_replayed limits h ms opening opening (All-nil (IsAtHome h)) (record {
+      agree = agree_itself h opening;
+      alone = record { areas = All-nil (λ (a : AreaVersion). is_area_version h a ≡ true); few = omega arith };
+    }) r l in
     (k.0, k.1.agree)
 
 all_local : (h : List ℕ) (from : ℕ) (ms : List Message) → position_from (is_foreign h) from ms ≡ None → All (IsLocal h) ms
 all_local h from [] e = All-nil (IsLocal h)
 all_local h from (m ∷ ms) e = elim (cases_Bool (is_foreign h m)) [
   | inl t ↦ let k : Some from ≡ None = sym (ap (λ (b : Bool). cond b (Some from) (position_from (is_foreign h) (from + 1) ms)) t) ∙ e in cc
-  | inr t ↦ All-cons (IsLocal h) m ms t (all_local h (from + 1) ms (sym (ap (λ (b : Bool). cond b (Some from) (position_from (is_foreign h) (from + 1) ms)) t) ∙ e))
+  | inr t ↦ All-cons (IsLocal h) m ms t
+      (all_local h (from + 1) ms (sym (ap (λ (b : Bool). cond b (Some from) (position_from (is_foreign h) (from + 1) ms)) t) ∙ e))
 ]
 
-pub opened : (limits : Limits) (h : List ℕ) (ms : List Message) (s : State) → IsReplay limits opening ms → Opens ms h (Ok s) → IsHolderAlone limits ms h s
+pub opened : (limits : Limits) (h : List ℕ) (ms : List Message) (s : State) → IsReplay limits opening ms → Opens ms h (Ok s)
+    → IsHolderAlone limits ms h s
 opened limits h ms s r o = let k = own_enough limits h ms r (all_local h 1 ms o.0) in record {
   replay = k.0;
   is = o.1;
-  same = subst (λ (x : State). LookAlike h (replayed opening ms) x) (sym o.1) (look_alike h (replayed opening ms) (replayed opening (own_messages h ms)) k.1);
+  same = subst (λ (x : State). LookAlike h (replayed opening ms) x) (sym o.1)
+      (look_alike h (replayed opening ms) (replayed opening (own_messages h ms)) k.1);
 }
 
 pub good_replayed : (limits : Limits) (ms : List Message) (s : State) → Good s → IsReplay limits s ms → Good (replayed s ms)

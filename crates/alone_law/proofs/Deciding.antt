@@ -33,7 +33,8 @@ use Rattle.alone_law.proofs.Away.{own_names}
 abbrev pub Gives : {R : Type 0} → Rule R → Rule R → Type 0
 Gives {R} first second = (a : Option R) → first a → second a
 
-pub then_gives : {R : Type 0} {first second other last : Rule R} → Gives first other → Gives second last → Gives (first then second) (other then last)
+pub then_gives : {R : Type 0} {first second other last : Rule R} → Gives first other → Gives second last
+    → Gives (first then second) (other then last)
 then_gives f g None h = (f None h.0, g None h.1)
 then_gives f g (Some r) (inl h) = inl (f (Some r) h)
 then_gives f g (Some r) (inr h) = inr (f None h.0, g (Some r) h.1)
@@ -41,7 +42,8 @@ then_gives f g (Some r) (inr h) = inr (f None h.0, g (Some r) h.1)
 pub is_gives : {R : Type 0} (x y : Option R) → x ≡ y → Gives (Is x) (Is y)
 is_gives x y e a h = h ∙ e
 
-pub through_gives : {R S : Type 0} (told : R → S) {first second : Rule R} → Gives first second → Gives (Through told first) (Through told second)
+pub through_gives : {R S : Type 0} (told : R → S) {first second : Rule R} → Gives first second
+    → Gives (Through told first) (Through told second)
 through_gives told f None h = f None h
 through_gives told f (Some cause) h = (h.0, f (Some h.0) h.1, h.2)
 
@@ -49,15 +51,20 @@ itself : {R : Type 0} (rule : Rule R) → Gives rule rule
 itself rule a h = h
 
 -- ---- mutations
-module _ (m : Message) (xs ys : List Version) (current : (ident : List ℕ) → holder_of ident ≡ m.holder → current_of ident xs ≡ current_of ident ys)
+module _ (m : Message) (xs ys : List Version)
+    (current : (ident : List ℕ) → holder_of ident ≡ m.holder → current_of ident xs ≡ current_of ident ys)
     (last : (ident : List ℕ) → holder_of ident ≡ m.holder → last_of ident xs ≡ last_of ident ys) where
-  same_fault : (at : ℕ) (x : Mutation) → holder_of (ident_of x) ≡ m.holder → mutation_refusal xs (header_of m) at x ≡ mutation_refusal ys (header_of m) at x
+  same_fault : (at : ℕ) (x : Mutation) → holder_of (ident_of x) ≡ m.holder
+      → mutation_refusal xs (header_of m) at x ≡ mutation_refusal ys (header_of m) at x
   same_fault at (Add i item) q = ap (λ (o : Option Version). when (not (bytes_eq (holder_of i) m.holder)) (refusal.Prefix at)
       (when (is_some o) (refusal.Known at) (item_refusal (header_of m) at item))) (last i q)
-  same_fault at (Change i was item) q = ap (λ (o : Option Version). change_refusal (header_of m) at was (kind_refusal (header_of m) at item) o
-      (current_of i xs)) (last i q) ∙ ap (change_refusal (header_of m) at was (kind_refusal (header_of m) at item) (last_of i ys)) (current i q)
+  same_fault at (Change i was item) q
+      = ap (λ (o : Option Version). change_refusal (header_of m) at was (kind_refusal (header_of m) at item) o
+      (current_of i xs)) (last i q) ∙ ap (change_refusal (header_of m) at was (kind_refusal (header_of m) at item) (last_of i ys)) (current
+      i q)
   same_fault at (End i was day) q = ap (λ (o : Option Version). change_refusal (header_of m) at was (end_day_refusal (header_of m) at day) o
-      (current_of i xs)) (last i q) ∙ ap (change_refusal (header_of m) at was (end_day_refusal (header_of m) at day) (last_of i ys)) (current i q)
+      (current_of i xs)) (last i q) ∙ ap (change_refusal (header_of m) at was (end_day_refusal (header_of m) at day)
+      (last_of i ys)) (current i q)
 
   pub mutations_give : (before rest : List Mutation) → All (λ x. holder_of (ident_of x) ≡ m.holder) rest
       → Gives (MutationsRule xs m before rest) (MutationsRule ys m before rest)
@@ -76,9 +83,11 @@ module _ (limits : Limits) (s t : State) (m : Message) (a : AgreeOn m.holder s t
   message_gives e = then_gives (is_gives (not_later m.moment (moment_of m.holder s.last)) (not_later m.moment (moment_of m.holder t.last))
       (ap (not_later m.moment) a.last))
       (then_gives (is_gives (stale_area s.areas m) (stale_area t.areas m) e)
-      (mutations_give m s.versions t.versions (same_current m.holder s t a) (same_last m.holder s t a) [] m.mutations (own_names m.holder m refl l)))
+      (mutations_give m s.versions t.versions (same_current m.holder s t a) (same_last m.holder s t a) [] m.mutations
+      (own_names m.holder m refl l)))
 
-  pub later_gives : Gives (AreaRule s.areas m.holder m.area) (AreaRule t.areas m.holder m.area) → Gives (LaterRule limits s m) (LaterRule limits t m)
+  pub later_gives : Gives (AreaRule s.areas m.holder m.area) (AreaRule t.areas m.holder m.area)
+      → Gives (LaterRule limits s m) (LaterRule limits t m)
   later_gives g = then_gives (is_gives (full_objects limits s m) (full_objects limits t m)
       (ap (λ (n : ℕ). when (nat_lt limits.objects n) (by_rule (refusal.Full Objects)) None)
       (same_objects m.holder (after s m) (after t m) (agree_after m.holder s t m a))))
@@ -90,7 +99,8 @@ when_or true x = inl refl
 when_or false x = inr refl
 
 -- with the same room for holders, or where that refuses neither
-pub decide_alike : (limits : Limits) (s t : State) (m : Message) (answer : Option Cause) → AgreeOn m.holder s t → IsLocal m.holder m → m.area ≡ None
+pub decide_alike : (limits : Limits) (s t : State) (m : Message) (answer : Option Cause) → AgreeOn m.holder s t → IsLocal m.holder m
+    → m.area ≡ None
     → answer ≢ Some no_holder_more → (Judged limits t m (Some no_holder_more) → ⊥) → Judged limits s m answer → Judged limits t m answer
 decide_alike limits s t m answer a l none other free j = by answer other j
   where
@@ -139,11 +149,13 @@ judged_passes limits s m h = record {
     block None e r = tt
     block (Some shapes) e r = (sym e, r)
 
-pub passing_judged : (limits : Limits) (s : State) (m : Message) → Passes s m → full_holders limits s m ≡ None → full_objects limits s m ≡ None
+pub passing_judged : (limits : Limits) (s : State) (m : Message) → Passes s m → full_holders limits s m ≡ None
+    → full_objects limits s m ≡ None
     → Judged limits s m None
 passing_judged limits s m p h o = ((sym p.fresh, (stale m.area p.area, p.mutations)), (sym h, (sym o, (block m.area p.area, p.map))))
   where
-    stale : (area : Option (List (List (List Vertex)))) → AreaPasses s.areas m area → None ≡ cond (is_some area) (earlier m.moment (newest_area s.areas)) None
+    stale : (area : Option (List (List (List Vertex)))) → AreaPasses s.areas m area
+        → None ≡ cond (is_some area) (earlier m.moment (newest_area s.areas)) None
     stale None a = refl
     stale (Some shapes) a = sym a.0
 

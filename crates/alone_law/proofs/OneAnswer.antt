@@ -22,7 +22,8 @@ use Rattle.map_rules.proofs.OneRule.{HasOne, one_is, one_then}
 use Rattle.alone_law.specs.Judging.Cause.{by_area, by_map, by_rule}
 
 -- ---- all rules
-module _ (one_note : (rings : List (List Vertex)) (note other : ShapeNote) → IsShapeNote rings note → IsShapeNote rings other → note ≡ other)
+module _
+    (one_note : (rings : List (List Vertex)) (note other : ShapeNote) → IsShapeNote rings note → IsShapeNote rings other → note ≡ other)
     (sound_has_none : (rings : List (List Vertex)) (note : ShapeNote) → IsSoundShape rings → ¬ IsShapeNote rings note) where
   one_block : (s : State) (m : Message) (area : Option (List (List (List Vertex)))) → HasOne (AreaRule s.areas m.holder area)
   one_block s m None = one_is None

@@ -14,7 +14,8 @@ use Rattle.alone_law.specs.Judging.{ShapesRule}
 use Rattle.map_rules.proofs.OneArea.{keep_of, no_shape, one_first_pair, one_holder, one_shape}
 use Rattle.map_rules.proofs.OneRule.{HasOne}
 
-module _ (one_note : (rings : List (List Vertex)) (note other : ShapeNote) → IsShapeNote rings note → IsShapeNote rings other → note ≡ other)
+module _
+    (one_note : (rings : List (List Vertex)) (note other : ShapeNote) → IsShapeNote rings note → IsShapeNote rings other → note ≡ other)
     (sound_has_none : (rings : List (List Vertex)) (note : ShapeNote) → IsSoundShape rings → ¬ IsShapeNote rings note)
     (areas : List AreaVersion) (own : List ℕ) (shapes : List (List (List Vertex))) where
   none_first : (s : ℕ) (what : ShapeNote) → IsFirstUnsound shapes s what → All IsSoundShape shapes → ⊥
@@ -29,7 +30,8 @@ module _ (one_note : (rings : List (List Vertex)) (note other : ShapeNote) → I
   two_pairs i j k l h n = let same = one_first_pair one_note sound_has_none areas own shapes i j k l h n in
       ap (λ (x : ℕ). Some (fault.Own x j)) same.0 ∙ ap (λ (y : ℕ). Some (fault.Own k y)) same.1
 
-  two_holders : (x y : List ℕ) → IsFirstHolder areas own shapes x → IsFirstHolder areas own shapes y → Some (fault.Meets x) ≡ Some (fault.Meets y)
+  two_holders : (x y : List ℕ) → IsFirstHolder areas own shapes x → IsFirstHolder areas own shapes y
+      → Some (fault.Meets x) ≡ Some (fault.Meets y)
   two_holders x y h k = ap (λ (g : List ℕ). Some (fault.Meets g)) (one_holder one_note sound_has_none areas own shapes x y h k)
 
   pub one_shapes : HasOne (ShapesRule areas own shapes)

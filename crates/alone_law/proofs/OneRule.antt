@@ -37,9 +37,11 @@ one_through {R} {S} told {rule} one = record { same = joined }
         (h.2 ∙ ap told f ∙ sym k.2)
 
 -- ---- the least of an order
-one_least : {A : Type 0} (order : A → A → Ordering) → IsTotalOrder order → ((x y : A) → order x y ≡ Equal → x ≡ y) → (P : A → Type 0) (x y : A)
+one_least : {A : Type 0} (order : A → A → Ordering) → IsTotalOrder order → ((x y : A) → order x y ≡ Equal → x ≡ y)
+    → (P : A → Type 0) (x y : A)
     → IsLeast order P x → IsLeast order P y → x ≡ y
-one_least order total equal P x y h k = equal x y (neither_less (order x y) (order y x) (total.antisymm x y) (k.least x h.has) (h.least y k.has))
+one_least order total equal P x y h k
+    = equal x y (neither_less (order x y) (order y x) (total.antisymm x y) (k.least x h.has) (h.least y k.has))
 
 both_equal : (o p : Ordering) → ordering_then o p ≡ Equal → (o ≡ Equal) × (p ≡ Equal)
 both_equal Less p h = cc
@@ -56,7 +58,8 @@ node_total : IsTotalOrder node_cmp
 node_total = then_total (on_total (λ (x : Node). x.0) vertex_cmp-total) (on_total (λ (x : Node). x.1) segment_cmp-total)
 
 node_equal : (x y : Node) → node_cmp x y ≡ Equal → x ≡ y
-node_equal x y h = let t = both_equal (vertex_cmp x.0 y.0) (segment_cmp x.1 y.1) h in ap (λ (v : Vertex). node v x.1) (vertex_equal x.0 y.0 t.0) ∙ ap
+node_equal x y h = let t = both_equal (vertex_cmp x.0 y.0) (segment_cmp x.1 y.1) h in ap (λ (v : Vertex). node v x.1)
+    (vertex_equal x.0 y.0 t.0) ∙ ap
     (node y.0) (segment_equal x.1 y.1 t.1)
 
 abbrev Pair : Type 0
@@ -93,8 +96,10 @@ or_true false = refl
 
 end_is : (e : Segment) (v : Vertex) → IsEndOf e v → is_end (point_of v) e ≡ true
 end_is e v h = elim h [
-  | inl k ↦ rw (is_at-same (point_of v) e.a (ap (λ (w : Vertex). w.x) k ∙ sym (one-mul e.a.x)) (ap (λ (w : Vertex). w.y) k ∙ sym (one-mul e.a.y))) refl
-  | inr k ↦ rw (is_at-same (point_of v) e.b (ap (λ (w : Vertex). w.x) k ∙ sym (one-mul e.b.x)) (ap (λ (w : Vertex). w.y) k ∙ sym (one-mul e.b.y)))
+  | inl k ↦ rw (is_at-same (point_of v) e.a (ap (λ (w : Vertex). w.x) k ∙ sym (one-mul e.a.x))
+      (ap (λ (w : Vertex). w.y) k ∙ sym (one-mul e.a.y))) refl
+  | inr k ↦ rw (is_at-same (point_of v) e.b (ap (λ (w : Vertex). w.x) k ∙ sym (one-mul e.b.x))
+      (ap (λ (w : Vertex). w.y) k ∙ sym (one-mul e.b.y)))
       (or_true (is_at (point_of v) e.a))
 ]
 
@@ -121,7 +126,8 @@ one_node edges = record { same = told }
         (one_least node_cmp node_total node_equal (IsUnnoded edges) h.0 k.0 h.1 k.1) ∙ sym k.2)
 
 cancels_or : (edges : List Segment) (e : Segment) → Cancels edges → IsUncancelled edges e → ⊥
-cancels_or edges e cancels u = let both = cancels e u.occurs in elim u.wrong [ inl two ↦ omega (arith, two, both.0) | inr none ↦ omega (arith, none, both.1) ]
+cancels_or edges e cancels u = let both = cancels e u.occurs in elim u.wrong
+    [ inl two ↦ omega (arith, two, both.0) | inr none ↦ omega (arith, none, both.1) ]
 
 one_cancel : (edges : List Segment) → HasOne (CancelRule fault.Tiled edges)
 one_cancel edges = record { same = told }
@@ -134,4 +140,5 @@ one_cancel edges = record { same = told }
         (one_least segment_cmp segment_cmp-total segment_equal (IsUncancelled edges) h.0 k.0 h.1 k.1) ∙ sym k.2)
 
 pub one_map : (m : HolderParts) → HasOne (MapRule m)
-one_map m = one_then (one_levels m.parts) (one_then (one_node (border m.area (ground_of m.parts))) (one_cancel (border m.area (ground_of m.parts))))
+one_map m = one_then (one_levels m.parts)
+    (one_then (one_node (border m.area (ground_of m.parts))) (one_cancel (border m.area (ground_of m.parts))))

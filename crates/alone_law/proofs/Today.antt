@@ -32,8 +32,10 @@ HasPrefix holder (Add ident item) = holder_of ident ≡ holder
 HasPrefix holder (Change ident was item) = Unit {0}
 HasPrefix holder (End ident was day) = Unit {0}
 
-prefix_one : (vs : List Version) (m : Message) (at : ℕ) (x : Mutation) → mutation_refusal vs (header_of m) at x ≡ None → HasPrefix m.holder x
-prefix_one vs m at (Add ident item) e = (bytes_eq-Decides (holder_of ident) m.holder).0 (not_false (bytes_eq (holder_of ident) m.holder) (when_none _ _ _ e).0)
+prefix_one : (vs : List Version) (m : Message) (at : ℕ) (x : Mutation) → mutation_refusal vs (header_of m) at x ≡ None
+    → HasPrefix m.holder x
+prefix_one vs m at (Add ident item) e
+    = (bytes_eq-Decides (holder_of ident) m.holder).0 (not_false (bytes_eq (holder_of ident) m.holder) (when_none _ _ _ e).0)
 prefix_one vs m at (Change ident was item) e = tt
 prefix_one vs m at (End ident was day) e = tt
 
@@ -43,7 +45,8 @@ all_prefix vs m before [] h = All-nil (HasPrefix m.holder)
 all_prefix vs m before (x ∷ ms) h = All-cons (HasPrefix m.holder) x ms (prefix_one vs m (length before + 1) x (sym h.1.0))
     (all_prefix vs m (before ++ x ∷ []) ms h.1.1.1)
 
-coded_one : (h : List ℕ) (vs : List Version) → All (IsAtHome h) vs → (holder : List ℕ) (x : Mutation) → HasPrefix holder x → IsFine vs holder x
+coded_one : (h : List ℕ) (vs : List Version) → All (IsAtHome h) vs → (holder : List ℕ) (x : Mutation) → HasPrefix holder x
+    → IsFine vs holder x
     → IsCoded h holder x
 coded_one h vs home holder (Add ident item) p f = ap (λ (i : List ℕ). bytes_eq i h) p
 coded_one h vs home holder (Change ident was item) p f = own_code h vs home holder ident f.0
@@ -54,7 +57,8 @@ begins_not h holder (Add ident item) n c = c ∙ n
 begins_not h holder (Change ident was item) n c = refl
 begins_not h holder (End ident was day) n c = refl
 
-pub taken_local : (h : List ℕ) (vs : List Version) (m : Message) → All (IsAtHome h) vs → MutationsRule vs m [] m.mutations None → IsLocal h m
+pub taken_local : (h : List ℕ) (vs : List Version) (m : Message) → All (IsAtHome h) vs → MutationsRule vs m [] m.mutations None
+    → IsLocal h m
 taken_local h vs m home r = elim (cases_Bool (bytes_eq m.holder h)) [
   | inl b ↦ ap (λ (t : Bool). cond t (list_any (names_other h) m.mutations) (list_any (begins_one h) m.mutations)) b ∙ none_any
       (names_other h) m.mutations (λ x c. ap not (coded x c ∙ b))

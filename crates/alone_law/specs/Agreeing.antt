@@ -47,7 +47,8 @@ begins_one holder (End ident was day) = Bool.false
 
 -- the holder's message names an identification with another code, or another's message begins one with the holder's code
 abbrev pub is_foreign : List ℕ → Message → Bool
-is_foreign holder m = if bytes_eq m.holder holder then list_any (names_other holder) m.mutations else list_any (begins_one holder) m.mutations
+is_foreign holder m
+    = if bytes_eq m.holder holder then list_any (names_other holder) m.mutations else list_any (begins_one holder) m.mutations
 
 -- the message is not foreign to the holder
 abbrev pub IsLocal : List ℕ → Message → Type 0

@@ -45,12 +45,14 @@ abbrev pub begun_by : List ℕ → List ℕ → ℤ → List Version → Deed �
 begun_by own other moment versions (alone (Add ident item)) = new_version own ident item moment ∷ []
 begun_by own other moment versions (alone (Change ident was item)) = new_version (kept_holder own ident versions) ident item moment ∷ []
 begun_by own other moment versions (alone (End ident was day)) = []
-begun_by own other moment versions (handover ident was item) = new_version (other_than own other (kept_holder own ident versions)) ident item moment ∷ []
+begun_by own other moment versions (handover ident was item)
+    = new_version (other_than own other (kept_holder own ident versions)) ident item moment ∷ []
 
 -- the state that a message of two holders leaves
 abbrev pub after_joint : State → Joint → State
 after_joint s j = record {
-  versions = map (touched_by j.moment (map mutation_of j.deeds)) s.versions ++ flat_map (begun_by j.own j.other j.moment s.versions) j.deeds;
+  versions
+      = map (touched_by j.moment (map mutation_of j.deeds)) s.versions ++ flat_map (begun_by j.own j.other j.moment s.versions) j.deeds;
   areas = areas_after j.other j.moment j.other_area (areas_after j.own j.moment j.area s.areas);
   last = last_after j.other j.moment (last_after j.own j.moment s.last);
   accepted = s.accepted + 1;

@@ -36,7 +36,8 @@ stale_area areas m = if is_some m.area then earlier m.moment (newest_area areas)
 
 -- moments, and then each mutation
 abbrev pub MessageRule : State → Message → Rule Refusal
-MessageRule s m = Is (not_later m.moment (moment_of m.holder s.last)) then Is (stale_area s.areas m) then MutationsRule s.versions m [] m.mutations
+MessageRule s m
+    = Is (not_later m.moment (moment_of m.holder s.last)) then Is (stale_area s.areas m) then MutationsRule s.versions m [] m.mutations
 
 -- as many holders as may be have an accepted message
 abbrev pub no_holder_more : Cause
@@ -48,7 +49,8 @@ full_holders limits s m = when (is_none (moment_of m.holder s.last) && nat_le li
 
 -- more current objects of the holder than may be
 abbrev pub full_objects : Limits → State → Message → Option Cause
-full_objects limits s m = when (nat_lt limits.objects (count_by (is_object_of m.holder) (after s m).versions)) (by_rule (refusal.Full Objects)) None
+full_objects limits s m
+    = when (nat_lt limits.objects (count_by (is_object_of m.holder) (after s m).versions)) (by_rule (refusal.Full Objects)) None
 
 -- the shapes are an area that keeps apart from the others, or they are refused; never for lack of memory
 abbrev pub ShapesRule : List AreaVersion → List ℕ → List (List (List Vertex)) → Rule AreaFault

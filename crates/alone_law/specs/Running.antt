@@ -69,4 +69,5 @@ plain_events holder es = filter (λ (e : Event). not (has_area e.entry)) (own_ev
 -- the holder's messages are the same in the same order, and of those with an area block the same are taken
 pub record AreAlike (holder : List ℕ) (es fs : List Event) : Type 0 where
   pub messages : map entry_of (own_events holder es) ≡ map entry_of (own_events holder fs)
-  pub areas : map (λ (e : Event). is_taken e.answer) (area_events holder es) ≡ map (λ (e : Event). is_taken e.answer) (area_events holder fs)
+  pub areas : map (λ (e : Event). is_taken e.answer) (area_events holder es) ≡ map (λ (e : Event). is_taken e.answer)
+      (area_events holder fs)

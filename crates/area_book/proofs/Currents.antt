@@ -50,7 +50,8 @@ no_holder h current q c k e = none_before (λ (x : Current). bytes_eq x.holder h
     (sym (position_from-zero (λ (x : Current). bytes_eq x.holder h) current) ∙ q) c k ((bytes_eq-Decides c.holder h).1 e)
 
 -- of one holder there is one
-pub one_of : (current : List Current) (k : ℕ) (c : Current) → AllPairs ◌≢◌ (map holder_of current) → k < length current → (at : Contains current c)
+pub one_of : (current : List Current) (k : ℕ) (c : Current) → AllPairs ◌≢◌ (map holder_of current) → k < length current
+    → (at : Contains current c)
     → (get_or current k c).holder ≡ c.holder → at.0 ≡ k
 one_of current k c p l at e = elim (cases_lt at.0 k) [
   | inl m ↦ absurd (p at.0 k c.holder m (inside k l) (holder_at at.0 at.1 ∙ ap holder_of at.2 ∙ sym e ∙ sym (holder_at k l)))
@@ -67,11 +68,13 @@ one_of current k c p l at e = elim (cases_lt at.0 k) [
     inside j lj = omega (arith, lj, length-map current holder_of)
 
 -- ---- versions by it
-pub current_as : (current : List Current) (areas : List AreaVersion) (c : Current) → AreCurrent current areas → Contains current c → IsCurrentIn areas c
+pub current_as : (current : List Current) (areas : List AreaVersion) (c : Current) → AreCurrent current areas → Contains current c
+    → IsCurrentIn areas c
 current_as current areas c s k = All-contains (IsCurrentIn areas) current c s.each k
 
 -- a current version stands in the list, under its holder
-pub stands : (current : List Current) (areas : List AreaVersion) (a : AreaVersion) → AreCurrent current areas → (at : Contains areas a) → a.until ≡ None
+pub stands : (current : List Current) (areas : List AreaVersion) (a : AreaVersion) → AreCurrent current areas → (at : Contains areas a)
+    → a.until ≡ None
     → (c : Current) × Contains current c × (c.place ≡ at.0) × IsCurrentAs c a
 stands current areas a s at u = let w = s.whole a at u in (
   w.0,
@@ -82,7 +85,8 @@ stands current areas a s at u = let w = s.whole a at u in (
 )
 
 -- the holder's area is the version that it names
-pub found_at : (h : List ℕ) (current : List Current) (areas : List AreaVersion) (k : ℕ) (c : Current) (a : AreaVersion) → AreCurrent current areas
+pub found_at : (h : List ℕ) (current : List Current) (areas : List AreaVersion) (k : ℕ) (c : Current) (a : AreaVersion)
+    → AreCurrent current areas
     → place_in h current ≡ Some k → c ≡ get_or current k c → a ≡ get_or areas c.place a → Some a ≡ find (is_area_of h) areas
 found_at h current areas k c a s q e g = by (find (is_area_of h) areas) (found areas h)
   where
@@ -101,10 +105,12 @@ found_at h current areas k c a s q e g = by (find (is_area_of h) areas) (found a
     by : (r : Option AreaVersion) → MatchOption r (HasNone areas h) (IsFound areas h) → Some a ≡ r
     by None n = absurd (n a (c.place, (current_as current areas c s has).inside, sym g) (is.holder ∙ own) is.open_end)
     by (Some x) f = let w = stands current areas x s f.of f.current in
-        let same : w.1.0 ≡ k = one_of current k w.0 s.apart l w.1 (ap holder_of (get_or_default current k w.0 c l ∙ sym e) ∙ own ∙ sym f.own ∙ w.3.holder) in
+        let same : w.1.0 ≡ k
+        = one_of current k w.0 s.apart l w.1 (ap holder_of (get_or_default current k w.0 c l ∙ sym e) ∙ own ∙ sym f.own ∙ w.3.holder) in
         let one : w.0 ≡ c = sym w.1.2 ∙ ap (λ j. get_or current j w.0) same ∙ get_or_default current k w.0 c l ∙ sym e in
         let place : f.of.0 ≡ c.place = sym w.2 ∙ ap (λ (y : Current). y.place) one in
-        ap Some (g ∙ get_or_default areas c.place a x (current_as current areas c s has).inside ∙ ap (λ j. get_or areas j x) (sym place) ∙ f.of.2)
+        ap Some (g ∙ get_or_default areas c.place a x (current_as current areas c s has).inside ∙ ap (λ j. get_or areas j x)
+        (sym place) ∙ f.of.2)
 
 pub found_none : (h : List ℕ) (current : List Current) (areas : List AreaVersion) → AreCurrent current areas → place_in h current ≡ None
     → None ≡ find (is_area_of h) areas

@@ -32,7 +32,8 @@ pub ended_as : (h : List ℕ) (m : ℤ) (place : ℕ) (areas : List AreaVersion)
     → ending_at place (Some m) areas ≡ map (area_ended h m) areas
 ended_as h m place [] l t n = absurd (omega (arith, l))
 ended_as h m zero (a ∷ areas) l t n = ap (λ (b : Bool). cond b (record a { until = Some m }) a ∷ areas) (sym (t a))
-    ∙ ap (λ (l : List AreaVersion). area_ended h m a ∷ l) (sym (none_ended h m areas (λ q d k. n (suc q) d (omega (arith, k)) (λ e. omega (arith, e)))))
+    ∙ ap (λ (l : List AreaVersion). area_ended h m a ∷ l)
+    (sym (none_ended h m areas (λ q d k. n (suc q) d (omega (arith, k)) (λ e. omega (arith, e)))))
 ended_as h m (suc place) (a ∷ areas) l t n = ap (λ (b : Bool). cond b (record a { until = Some m }) a ∷ ending_at place (Some m) areas)
     (sym (n 0 a (omega arith) (λ e. omega (arith, e))))
     ∙ ap (λ (l : List AreaVersion). area_ended h m a ∷ l) (ended_as h m place areas (omega (arith, l)) t

@@ -17,14 +17,16 @@ use Rattle.slab_wind.proofs.Strands.{wind_above}
 use Rattle.area_book.specs.Others.{PairsShare}
 use Rattle.rd_plane.proofs.NearOff.{near_off, IsNearOff}
 
-any_true : (p : Point) (shapes : List (List (List Vertex))) → covers_any p shapes ≡ true → (s : List (List Vertex)) × Contains shapes s × (covers p s ≡ true)
+any_true : (p : Point) (shapes : List (List (List Vertex))) → covers_any p shapes ≡ true
+    → (s : List (List Vertex)) × Contains shapes s × (covers p s ≡ true)
 any_true p [] h = absurd (both_ways false refl h)
 any_true p (s ∷ shapes) h = elim (cases_Bool (covers p s)) [
   | inl t ↦ (s, contains_head s shapes, t)
   | inr t ↦ let k = any_true p shapes (rw t at h) in (k.0, contains_tail s k.0 shapes k.1, k.2)
 ]
 
-true_any : (p : Point) (shapes : List (List (List Vertex))) (s : List (List Vertex)) → Contains shapes s → covers p s ≡ true → covers_any p shapes ≡ true
+true_any : (p : Point) (shapes : List (List (List Vertex))) (s : List (List Vertex)) → Contains shapes s → covers p s ≡ true
+    → covers_any p shapes ≡ true
 true_any p [] s c h = absurd (omega (arith, c.1))
 true_any p (t ∷ shapes) s c h = elim (cases_Bool (covers p t)) [
   | inl k ↦ rw k refl
@@ -34,12 +36,14 @@ true_any p (t ∷ shapes) s c h = elim (cases_Bool (covers p t)) [
   ]
 ]
 
-off_member : (p : Point) (shapes : List (List (List Vertex))) (s : List (List Vertex)) → off p (all_edges shapes) ≡ true → Contains shapes s → off p (shape_edges s) ≡ true
+off_member : (p : Point) (shapes : List (List (List Vertex))) (s : List (List Vertex)) → off p (all_edges shapes) ≡ true → Contains shapes s
+    → off p (shape_edges s) ≡ true
 off_member p [] s o c = absurd (omega (arith, c.1))
-off_member p (t ∷ shapes) s o c = let k = and_parts (off p (shape_edges t)) (off p (all_edges shapes)) (sym (off-append p (shape_edges t) (all_edges shapes)) ∙ o) in elim (contains_cases t s shapes c) [
-  | inl q ↦ subst (λ u. off p (shape_edges u) ≡ true) q k.0
-  | inr d ↦ off_member p shapes s k.1 d
-]
+off_member p (t ∷ shapes) s o c = let k = and_parts (off p (shape_edges t)) (off p (all_edges shapes))
+    (sym (off-append p (shape_edges t) (all_edges shapes)) ∙ o) in elim (contains_cases t s shapes c) [
+      | inl q ↦ subst (λ u. off p (shape_edges u) ≡ true) q k.0
+      | inr d ↦ off_member p shapes s k.1 d
+    ]
 
 pub lists_apart : (one other : List (List (List Vertex))) → (PairsShare one other → ⊥) → AreApart one other
 lists_apart one other n p oo ot = elim (cases_Bool (covers_any p one)) [
@@ -47,13 +51,32 @@ lists_apart one other n p oo ot = elim (cases_Bool (covers_any p one)) [
   | inl a ↦ elim (cases_Bool (covers_any p other)) [
     | inr b ↦ rw (a, b) refl
     | inl b ↦ let s = any_true p one a in let t = any_true p other b in
-        absurd (n (s.0, s.1, (t.0, t.1, (p, record { off_first = off_member p one s.0 oo s.1; off_second = off_member p other t.0 ot t.1; in_first = s.2; in_second = t.2 }))))
+        absurd (n (
+          s.0,
+          s.1,
+          (
+            t.0,
+            t.1,
+            (
+              p,
+              record {
+                off_first = off_member p one s.0 oo s.1;
+                off_second = off_member p other t.0 ot t.1;
+                in_first = s.2;
+                in_second = t.2;
+              },
+            ),
+          ),
+        ))
   ]
 ]
 
 -- near a point of both, and off all edges
-pub pairs_not_apart : (one other : List (List (List Vertex))) → All IsSoundShape one → All IsSoundShape other → PairsShare one other → AreApart one other → ⊥
-pairs_not_apart one other so st k a = both_ways (covers_any r.0 one && covers_any r.0 other) (a r.0 edges.0 edges.1) (and_from (covers_any r.0 one) (covers_any r.0 other) (true_any r.0 one s k.1 in_s) (true_any r.0 other t k.2.1 in_t))
+pub pairs_not_apart : (one other : List (List (List Vertex))) → All IsSoundShape one → All IsSoundShape other → PairsShare one other
+    → AreApart one other → ⊥
+pairs_not_apart one other so st k a
+    = both_ways (covers_any r.0 one && covers_any r.0 other) (a r.0 edges.0 edges.1)
+    (and_from (covers_any r.0 one) (covers_any r.0 other) (true_any r.0 one s k.1 in_s) (true_any r.0 other t k.2.1 in_t))
   where
     s : List (List Vertex)
     s = k.0
@@ -70,14 +93,17 @@ pairs_not_apart one other so st k a = both_ways (covers_any r.0 one && covers_an
     sound_t : IsSoundShape t
     sound_t = All-contains IsSoundShape other t st k.2.1
 
-    near : Soon p (λ r. (High p r → wind r (shape_edges s) ≡ wind p (shape_edges s)) × (High p r → wind r (shape_edges t) ≡ wind p (shape_edges t)))
+    near : Soon p
+        (λ r. (High p r → wind r (shape_edges s) ≡ wind p (shape_edges s)) × (High p r → wind r (shape_edges t) ≡ wind p (shape_edges t)))
     near = both_soon p (wind_above p (shape_edges s) k.2.2.1.off_first) (wind_above p (shape_edges t) k.2.2.1.off_second)
 
     r : (r : Point) × IsNearOff near.m p (all_edges one ++ all_edges other) r
-    r = near_off near.m p (all_edges one ++ all_edges other) (all_join (λ e. e.a ≢ e.b) (all_edges one) (all_edges other) (all_differ one (recursion_from_All IsSoundShape one so)) (all_differ other (recursion_from_All IsSoundShape other st)))
+    r = near_off near.m p (all_edges one ++ all_edges other) (all_join (λ e. e.a ≢ e.b) (all_edges one) (all_edges other)
+        (all_differ one (recursion_from_All IsSoundShape one so)) (all_differ other (recursion_from_All IsSoundShape other st)))
 
     edges : (off r.0 (all_edges one) ≡ true) × (off r.0 (all_edges other) ≡ true)
-    edges = and_parts (off r.0 (all_edges one)) (off r.0 (all_edges other)) (sym (off-append r.0 (all_edges one) (all_edges other)) ∙ r.1.off_edges)
+    edges = and_parts (off r.0 (all_edges one)) (off r.0 (all_edges other))
+        (sym (off-append r.0 (all_edges one) (all_edges other)) ∙ r.1.off_edges)
 
     same : (wind r.0 (shape_edges s) ≡ wind p (shape_edges s)) × (wind r.0 (shape_edges t) ≡ wind p (shape_edges t))
     same = let h = near.holds r.0 r.1.near in (h.0 r.1.high, h.1 r.1.high)

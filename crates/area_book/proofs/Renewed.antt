@@ -22,7 +22,8 @@ pub record IsRenewed (h : List ℕ) (one : Current) (old new : List Current) : T
   pub has : Contains new one
   pub apart : AllPairs ◌≢◌ (map holder_of new)
 
-pub first_set : (h : List ℕ) (one : Current) (old : List Current) → one.holder ≡ h → place_in h old ≡ None → AllPairs ◌≢◌ (map holder_of old)
+pub first_set : (h : List ℕ) (one : Current) (old : List Current) → one.holder ≡ h → place_in h old ≡ None
+    → AllPairs ◌≢◌ (map holder_of old)
     → IsRenewed h one old (old ++ one ∷ [])
 first_set h one old e q p = record {
   from = λ c k. elim (Contains-push_cases old one c k) [ inl d ↦ inr (d, no_holder h old q c d) | inr d ↦ inl (sym d) ];
@@ -33,7 +34,8 @@ first_set h one old e q p = record {
       no_holder h old q (get_or old k one) (All-contains_itself old k one m) (sym (get_or-map holder_of old k one d m) ∙ g ∙ e)));
 }
 
-pub next_set : (h : List ℕ) (one : Current) (old : List Current) (k : ℕ) → one.holder ≡ h → place_in h old ≡ Some k → AllPairs ◌≢◌ (map holder_of old)
+pub next_set : (h : List ℕ) (one : Current) (old : List Current) (k : ℕ) → one.holder ≡ h → place_in h old ≡ Some k
+    → AllPairs ◌≢◌ (map holder_of old)
     → IsRenewed h one old (set old k one)
 next_set h one old k e q p = record {
   from = λ c at. elim (cases_eq at.0 k) [
@@ -79,11 +81,13 @@ open_still h m a u = elim (cases_Bool (is_area_of h a)) [
     some_none e = cc
 
 -- ---- the new versions have the new list
-pub renewed_current : (h : List ℕ) (m : ℤ) (shapes : List (List (List Vertex))) (one : Current) (old new : List Current) (areas : List AreaVersion)
+pub renewed_current : (h : List ℕ) (m : ℤ) (shapes : List (List (List Vertex))) (one : Current) (old new : List Current)
+    (areas : List AreaVersion)
     → AreCurrent old areas → one.holder ≡ h → one.place ≡ length areas → IsBoxOf one.bounds shapes
     → IsRenewed h one old new → AreCurrent new (map (area_ended h m) areas ++ new_area h m shapes ∷ [])
 renewed_current h m shapes one old new areas s e g b r = record {
-  each = all_from (IsCurrentIn after) new (λ c k. elim (r.from c k) [ inl q ↦ subst (IsCurrentIn after) (sym q) last | inr t ↦ kept c t.0 t.1 ]);
+  each = all_from (IsCurrentIn after) new
+      (λ c k. elim (r.from c k) [ inl q ↦ subst (IsCurrentIn after) (sym q) last | inr t ↦ kept c t.0 t.1 ]);
   whole = whole;
   apart = r.apart;
 }

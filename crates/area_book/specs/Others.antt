@@ -46,4 +46,5 @@ pub record IsLeastMeeting (areas : List AreaVersion) (own : List ℕ) (shapes : 
   pub others : IsOthers own version
   pub is : version.holder ≡ holder
   pub shares : PairsShare shapes version.shapes
-  pub least : (a : AreaVersion) → Contains areas a → IsOthers own a → slice_cmp nat_cmp a.holder holder ≡ Less → PairsShare shapes a.shapes → ⊥
+  pub least : (a : AreaVersion) → Contains areas a → IsOthers own a → slice_cmp nat_cmp a.holder holder ≡ Less → PairsShare shapes a.shapes
+      → ⊥

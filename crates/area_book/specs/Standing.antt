@@ -86,12 +86,15 @@ stood (r ∷ replaced) s = stood_before r (stood replaced s)
 -- ---- an area that is set
 -- this one becomes its holder's current area, and what was current before it ends at the moment
 abbrev pub IsReplaced : Current → ℤ → Standing → Option Replaced → Standing → Type 0
-IsReplaced one moment old None new = (place_in one.holder old.current ≡ None) × (new ≡ record { areas = old.areas; current = old.current ++ one ∷ [] })
-IsReplaced one moment old (Some r) new = (place_in one.holder old.current ≡ Some r.at) × (r.before ≡ slice_index_or old.current r.at r.before)
+IsReplaced one moment old None new
+    = (place_in one.holder old.current ≡ None) × (new ≡ record { areas = old.areas; current = old.current ++ one ∷ [] })
+IsReplaced one moment old (Some r) new
+    = (place_in one.holder old.current ≡ Some r.at) × (r.before ≡ slice_index_or old.current r.at r.before)
     × (new ≡ record { areas = ending_at r.before.place (Some moment) old.areas; current = slice_set old.current r.at one })
 
 -- the shapes are the holder's current area from the moment on, as the last version, and what they replace is noted
-pub record IsSetBy (holder : List ℕ) (moment : ℤ) (shapes : List (List (List Vertex))) (old new : Standing) (before after : List (Option Replaced)) : Type 0 where
+pub record IsSetBy (holder : List ℕ) (moment : ℤ) (shapes : List (List (List Vertex))) (old new : Standing)
+    (before after : List (Option Replaced)) : Type 0 where
   pub one : Current
   pub replaced : Option Replaced
   pub middle : Standing

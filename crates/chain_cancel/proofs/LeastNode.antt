@@ -50,7 +50,8 @@ pub record IsOne (area parts : List Segment) (e : Segment) : Type 0 where
   pub case : Contains parts e ⊎ ((f : Segment) × Contains area f × (e ≡ reversed f))
 
 pub one_of : (area parts : List Segment) (e : Segment) → Contains (border_of area parts) e → IsOne area parts e
-one_of area parts e c = elim (Contains-append_cases parts (map reversed area) e c) [ inl d ↦ record { case = inl d } | inr d ↦ record { case = inr (turned_from area e d) } ]
+one_of area parts e c = elim (Contains-append_cases parts (map reversed area) e c)
+    [ inl d ↦ record { case = inl d } | inr d ↦ record { case = inr (turned_from area e d) } ]
 
 pub end_turned : (e f : Segment) (v : Vertex) → e ≡ reversed f → IsEndOf e v → IsEndOf f v
 end_turned e f v q h = elim h [ inl k ↦ inr (k ∙ ap (λ (g : Segment). g.a) q) | inr k ↦ inl (k ∙ ap (λ (g : Segment). g.b) q) ]
@@ -61,18 +62,45 @@ end_back f v h = elim h [ inl k ↦ inr k | inr k ↦ inl k ]
 -- the four searches
 abbrev Found : List Segment → List Segment → Node → Type 0
 Found area parts =
-    Either (Either (Either (IsEndInside parts parts false) (IsEndInside parts area true)) (IsEndInside area parts false)) (IsEndInside area area true)
+    Either (Either (Either (IsEndInside parts parts false) (IsEndInside parts area true)) (IsEndInside area parts false))
+    (IsEndInside area area true)
 
 found_so : (area parts : List Segment) (x : Node) → Found area parts x → IsUnnoded (border_of area parts) x
 found_so area parts x t = elim t [
   | inl a ↦ elim a [
     | inl b ↦ elim b [
-      | inl s ↦ record { own = s.own; of = contains_left parts (map reversed area) s.own s.of; end = s.end; edge = subst (Contains (border_of area parts)) (sym s.edge) (contains_left parts (map reversed area) s.from s.one); inside = s.inside }
-      | inr s ↦ record { own = s.own; of = contains_left parts (map reversed area) s.own s.of; end = s.end; edge = subst (Contains (border_of area parts)) (sym s.edge) (contains_right parts (map reversed area) (reversed s.from) (contains_turned area s.from s.one)); inside = s.inside }
+      | inl s ↦ record {
+        own = s.own;
+        of = contains_left parts (map reversed area) s.own s.of;
+        end = s.end;
+        edge = subst (Contains (border_of area parts)) (sym s.edge) (contains_left parts (map reversed area) s.from s.one);
+        inside = s.inside;
+      }
+      | inr s ↦ record {
+        own = s.own;
+        of = contains_left parts (map reversed area) s.own s.of;
+        end = s.end;
+        edge = subst (Contains (border_of area parts)) (sym s.edge)
+            (contains_right parts (map reversed area) (reversed s.from) (contains_turned area s.from s.one));
+        inside = s.inside;
+      }
     ]
-    | inr s ↦ record { own = reversed s.own; of = contains_right parts (map reversed area) (reversed s.own) (contains_turned area s.own s.of); end = end_back s.own x.0 s.end; edge = subst (Contains (border_of area parts)) (sym s.edge) (contains_left parts (map reversed area) s.from s.one); inside = s.inside }
+    | inr s ↦ record {
+      own = reversed s.own;
+      of = contains_right parts (map reversed area) (reversed s.own) (contains_turned area s.own s.of);
+      end = end_back s.own x.0 s.end;
+      edge = subst (Contains (border_of area parts)) (sym s.edge) (contains_left parts (map reversed area) s.from s.one);
+      inside = s.inside;
+    }
   ]
-  | inr s ↦ record { own = reversed s.own; of = contains_right parts (map reversed area) (reversed s.own) (contains_turned area s.own s.of); end = end_back s.own x.0 s.end; edge = subst (Contains (border_of area parts)) (sym s.edge) (contains_right parts (map reversed area) (reversed s.from) (contains_turned area s.from s.one)); inside = s.inside }
+  | inr s ↦ record {
+    own = reversed s.own;
+    of = contains_right parts (map reversed area) (reversed s.own) (contains_turned area s.own s.of);
+    end = end_back s.own x.0 s.end;
+    edge = subst (Contains (border_of area parts)) (sym s.edge)
+        (contains_right parts (map reversed area) (reversed s.from) (contains_turned area s.from s.one));
+    inside = s.inside;
+  }
 ]
 
 so_found : (area parts : List Segment) (x : Node) → IsUnnoded (border_of area parts) x → Found area parts x
@@ -82,8 +110,24 @@ so_found area parts x s = elim (one_of area parts s.own s.of).case [
     | inr c ↦ inl (inl (inr (record { own = s.own; of = own; end = s.end; from = c.0; one = c.1; edge = c.2; inside = s.inside })))
   ]
   | inr own ↦ elim (one_of area parts x.1 s.edge).case [
-    | inl c ↦ inl (inr (record { own = own.0; of = own.1; end = end_turned s.own own.0 x.0 own.2 s.end; from = x.1; one = c; edge = refl; inside = s.inside }))
-    | inr c ↦ inr (record { own = own.0; of = own.1; end = end_turned s.own own.0 x.0 own.2 s.end; from = c.0; one = c.1; edge = c.2; inside = s.inside })
+    | inl c ↦ inl (inr (record {
+      own = own.0;
+      of = own.1;
+      end = end_turned s.own own.0 x.0 own.2 s.end;
+      from = x.1;
+      one = c;
+      edge = refl;
+      inside = s.inside;
+    }))
+    | inr c ↦ inr (record {
+      own = own.0;
+      of = own.1;
+      end = end_turned s.own own.0 x.0 own.2 s.end;
+      from = c.0;
+      one = c.1;
+      edge = c.2;
+      inside = s.inside;
+    })
   ]
 ]
 
@@ -107,7 +151,18 @@ noded edges n e f p ce cf h o = elim (cases_Bool (is_end p f)) [
     ]
 
     at : (v : Vertex) → IsEndOf e v → p.px ≡ p.q *ℤ v.x → p.py ≡ p.q *ℤ v.y → is_end p f ≡ false → ⊥
-    at v own hx hy t = n (v, f) (record { own = e; of = ce; end = own; edge = cf; inside = (sym (on-same p (point_of v) f (same_point_as p v hx hy)) ∙ o, (λ q. both_ways (is_end p f) t (is_a v hx hy q)), λ q. both_ways (is_end p f) t (is_b v hx hy q)) })
+    at v own hx hy t = n (v, f) (record {
+      own = e;
+      of = ce;
+      end = own;
+      edge = cf;
+      inside = (
+        sym (on-same p (point_of v) f
+            (same_point_as p v hx hy)) ∙ o,
+        (λ q. both_ways (is_end p f) t (is_a v hx hy q)),
+        λ q. both_ways (is_end p f) t (is_b v hx hy q),
+      );
+    })
 
 pub least_of : (edges : List Segment) (T : Node → Type 0) → ((x : Node) → T x → IsUnnoded edges x) → ((x : Node) → IsUnnoded edges x → T x)
     → (r : Option Node) → Improves node_cmp T None r → MatchOption r (IsNoded edges) (IsLeast node_cmp (IsUnnoded edges))

@@ -21,8 +21,10 @@ or_true false = refl
 
 end_is : (e : Segment) (v : Vertex) → IsEndOf e v → is_end (point_of v) e ≡ true
 end_is e v h = elim h [
-  | inl k ↦ rw (is_at-same (point_of v) e.a (ap (λ (w : Vertex). w.x) k ∙ sym (one-mul e.a.x)) (ap (λ (w : Vertex). w.y) k ∙ sym (one-mul e.a.y))) refl
-  | inr k ↦ rw (is_at-same (point_of v) e.b (ap (λ (w : Vertex). w.x) k ∙ sym (one-mul e.b.x)) (ap (λ (w : Vertex). w.y) k ∙ sym (one-mul e.b.y))) (or_true (is_at (point_of v) e.a))
+  | inl k ↦ rw (is_at-same (point_of v) e.a (ap (λ (w : Vertex). w.x) k ∙ sym (one-mul e.a.x))
+      (ap (λ (w : Vertex). w.y) k ∙ sym (one-mul e.a.y))) refl
+  | inr k ↦ rw (is_at-same (point_of v) e.b (ap (λ (w : Vertex). w.x) k ∙ sym (one-mul e.b.x))
+      (ap (λ (w : Vertex). w.y) k ∙ sym (one-mul e.b.y))) (or_true (is_at (point_of v) e.a))
 ]
 
 -- of edges that share their vertices none has an end of another strictly inside
@@ -36,19 +38,45 @@ none_inside old own e v n a b end inside = elim (end_cases (point_of v) e (n own
 -- the four searches
 abbrev Found : List Segment → List Segment → List Segment → Node → Type 0
 Found area parts added =
-    Either (Either (Either (IsEndInside added parts false) (IsEndInside added area true)) (IsEndInside parts added false)) (IsEndInside area added false)
+    Either (Either (Either (IsEndInside added parts false) (IsEndInside added area true)) (IsEndInside parts added false))
+    (IsEndInside area added false)
 
 module _ (area parts added : List Segment) (all : AreAllBut (border_of area parts) added) where
   found_so : (x : Node) → Found area parts added x → IsUnnoded (border_of area parts) x
   found_so x t = elim t [
     | inl a ↦ elim a [
       | inl b ↦ elim b [
-        | inl s ↦ record { own = s.own; of = all.among s.own s.of; end = s.end; edge = subst (Contains (border_of area parts)) (sym s.edge) (contains_left parts (map reversed area) s.from s.one); inside = s.inside }
-        | inr s ↦ record { own = s.own; of = all.among s.own s.of; end = s.end; edge = subst (Contains (border_of area parts)) (sym s.edge) (contains_right parts (map reversed area) (reversed s.from) (contains_turned area s.from s.one)); inside = s.inside }
+        | inl s ↦ record {
+          own = s.own;
+          of = all.among s.own s.of;
+          end = s.end;
+          edge = subst (Contains (border_of area parts)) (sym s.edge) (contains_left parts (map reversed area) s.from s.one);
+          inside = s.inside;
+        }
+        | inr s ↦ record {
+          own = s.own;
+          of = all.among s.own s.of;
+          end = s.end;
+          edge = subst (Contains (border_of area parts)) (sym s.edge)
+              (contains_right parts (map reversed area) (reversed s.from) (contains_turned area s.from s.one));
+          inside = s.inside;
+        }
       ]
-      | inr s ↦ record { own = s.own; of = contains_left parts (map reversed area) s.own s.of; end = s.end; edge = subst (Contains (border_of area parts)) (sym s.edge) (all.among s.from s.one); inside = s.inside }
+      | inr s ↦ record {
+        own = s.own;
+        of = contains_left parts (map reversed area) s.own s.of;
+        end = s.end;
+        edge = subst (Contains (border_of area parts)) (sym s.edge) (all.among s.from s.one);
+        inside = s.inside;
+      }
     ]
-    | inr s ↦ record { own = reversed s.own; of = contains_right parts (map reversed area) (reversed s.own) (contains_turned area s.own s.of); end = end_back s.own x.0 s.end; edge = subst (Contains (border_of area parts)) (sym s.edge) (all.among s.from s.one); inside = s.inside }
+    | inr s ↦ record {
+      own = reversed s.own;
+      of = contains_right parts (map reversed area) (reversed s.own) (contains_turned area s.own s.of);
+      end = end_back s.own x.0 s.end;
+      edge = subst (Contains (border_of area parts)) (sym s.edge) (all.among s.from s.one);
+      inside = s.inside;
+    }
   ]
 
   so_found : (x : Node) → IsUnnoded (border_of area parts) x → Found area parts added x
@@ -60,12 +88,23 @@ module _ (area parts added : List Segment) (all : AreAllBut (border_of area part
     | inr old ↦ elim (all.others x.1 s.edge) [
       | inl new ↦ elim (one_of area parts s.own s.of).case [
         | inl own ↦ inl (inr (record { own = s.own; of = own; end = s.end; from = x.1; one = new; edge = refl; inside = s.inside }))
-        | inr own ↦ inr (record { own = own.0; of = own.1; end = end_turned s.own own.0 x.0 own.2 s.end; from = x.1; one = new; edge = refl; inside = s.inside })
+        | inr own ↦ inr (record {
+          own = own.0;
+          of = own.1;
+          end = end_turned s.own own.0 x.0 own.2 s.end;
+          from = x.1;
+          one = new;
+          edge = refl;
+          inside = s.inside;
+        })
       ]
       | inr edge ↦ absurd (none_inside all.old s.own x.1 x.0 all.noded old edge s.end s.inside)
     ]
   ]
 
-  pub with_found : (a b c r : Option Node) → Improves node_cmp (IsEndInside added parts false) None a → Improves node_cmp (IsEndInside added area true) a b → Improves node_cmp (IsEndInside parts added false) b c → Improves node_cmp (IsEndInside area added false) c r →
+  pub with_found : (a b c r : Option Node) → Improves node_cmp (IsEndInside added parts false) None a
+      → Improves node_cmp (IsEndInside added area true) a b → Improves node_cmp (IsEndInside parts added false) b c
+      → Improves node_cmp (IsEndInside area added false) c r →
       MatchOption r (IsNoded (border_of area parts)) (IsLeast node_cmp (IsUnnoded (border_of area parts)))
-  with_found a b c r f g h k = least_of (border_of area parts) (Found area parts added) found_so so_found r (both node_total None c r (both node_total None b c (both node_total None a b f g) h) k)
+  with_found a b c r f g h k = least_of (border_of area parts) (Found area parts added) found_so so_found r
+      (both node_total None c r (both node_total None b c (both node_total None a b f g) h) k)

@@ -8,8 +8,6 @@
 mod codes;
 pub mod laws;
 mod table;
-#[cfg(test)]
-mod tests;
 
 pub use codes::{Codes, HasText, TextTable};
 pub use table::{Table, known};

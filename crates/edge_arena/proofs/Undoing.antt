@@ -16,7 +16,8 @@ pub times-push_same : (s : ℕ) (free : List ℕ) → times s (free ++ s ∷ [])
 times-push_same s free = times-push s s free ∙ ap (λ b. times s free + cond b 1 0) (eq-eqb s s refl)
 
 pub times-push_other : (t s : ℕ) (free : List ℕ) → t ≢ s → times t (free ++ s ∷ []) ≡ times t free
-times-push_other t s free d = times-push t s free ∙ ap (λ b. times t free + cond b 1 0) (ne_eqb s t (λ e. d (sym e))) ∙ add-zero (times t free)
+times-push_other t s free d
+    = times-push t s free ∙ ap (λ b. times t free + cond b 1 0) (ne_eqb s t (λ e. d (sym e))) ∙ add-zero (times t free)
 
 pub take_push : {X : Type 0} (xs : List X) (x : X) → take (length (xs ++ x ∷ []) - 1) (xs ++ x ∷ []) ≡ xs
 take_push xs x =
@@ -28,13 +29,15 @@ module _ {T : Type 0} where
   undo_all-push [] x c = refl
   undo_all-push (y ∷ xs) x c = ap (undo y) (undo_all-push xs x c)
 
-  pub AreSound-push : (m n : ℕ) (xs : List (Change T)) (x : Change T) (c : Contents T) → IsSoundArena m n c → MayUndo x c → AreSound m n xs (undo x c) → AreSound m n (xs ++ x ∷ []) c
+  pub AreSound-push : (m n : ℕ) (xs : List (Change T)) (x : Change T) (c : Contents T) → IsSoundArena m n c → MayUndo x c
+      → AreSound m n xs (undo x c) → AreSound m n (xs ++ x ∷ []) c
   AreSound-push m n [] x c s may h = (s, may, h)
   AreSound-push m n (y ∷ xs) x c s may h =
       let e = sym (undo_all-push xs x c) in
       (AreSound-push m n xs x c s may h.0, subst (MayUndo y) e h.1, subst (λ d. IsSoundArena m n (undo y d)) e h.2)
 
-  pub AreSound-pop : (m n : ℕ) (xs : List (Change T)) (x : Change T) (c : Contents T) → AreSound m n (xs ++ x ∷ []) c → IsSoundArena m n c × MayUndo x c × AreSound m n xs (undo x c)
+  pub AreSound-pop : (m n : ℕ) (xs : List (Change T)) (x : Change T) (c : Contents T) → AreSound m n (xs ++ x ∷ []) c
+      → IsSoundArena m n c × MayUndo x c × AreSound m n xs (undo x c)
   AreSound-pop m n [] x c h = h
   AreSound-pop m n (y ∷ xs) x c h =
       let e = undo_all-push xs x c in
@@ -53,20 +56,24 @@ module _ {T : Type 0} where
   AreSound-more m n v w [] c a b h = more_room m n v w c a b h
   AreSound-more m n v w (x ∷ xs) c a b h = (AreSound-more m n v w xs c a b h.0, h.1, more_room m n v w _ a b h.2)
 
-  pub step_sound : (m n : ℕ) (xs : List (Change T)) (x : Change T) (old new : Contents T) → undo x new ≡ old → IsSoundArena m n new → MayUndo x new → AreSound m n xs old → AreSound m n (xs ++ x ∷ []) new
+  pub step_sound : (m n : ℕ) (xs : List (Change T)) (x : Change T) (old new : Contents T) → undo x new ≡ old → IsSoundArena m n new
+      → MayUndo x new → AreSound m n xs old → AreSound m n (xs ++ x ∷ []) new
   step_sound m n xs x old new e s may h = AreSound-push m n xs x new s may (subst (AreSound m n xs) (sym e) h)
 
-  pub step_kept : (xs : List (Change T)) (x : Change T) (old new : Contents T) → undo x new ≡ old → undo_all (xs ++ x ∷ []) new ≡ undo_all xs old
+  pub step_kept : (xs : List (Change T)) (x : Change T) (old new : Contents T) → undo x new ≡ old
+      → undo_all (xs ++ x ∷ []) new ≡ undo_all xs old
   step_kept xs x old new e = undo_all-push xs x new ∙ ap (undo_all xs) e
 
   -- a write that is written back
   pub set_back : (xs : List (Option T)) (s : ℕ) (a b : Option T) → get_or xs s None ≡ a → set (set xs s b) s a ≡ xs
   set_back xs s a b h = set-set xs s b a ∙ ap (λ v. set xs s v) (sym h) ∙ set-get_or xs s None
 
-  pub Changes-set : (xs : List (Option T)) (free now : List ℕ) (s : ℕ) (o : Option T) → s < length xs → Changes (record { slots = xs; free = free }) (record { slots = set xs s o; free = now }) s o
+  pub Changes-set : (xs : List (Option T)) (free now : List ℕ) (s : ℕ) (o : Option T) → s < length xs
+      → Changes (record { slots = xs; free = free }) (record { slots = set xs s o; free = now }) s o
   Changes-set xs free now s o h = record { there = get_or-set_same xs s o None h; elsewhere = λ t d. get_or-set_other xs s t o None d }
 
-  pub Changes-push : (xs : List (Option T)) (free now : List ℕ) (o : Option T) → Changes (record { slots = xs; free = free }) (record { slots = xs ++ o ∷ []; free = now }) (length xs) o
+  pub Changes-push : (xs : List (Option T)) (free now : List ℕ) (o : Option T)
+      → Changes (record { slots = xs; free = free }) (record { slots = xs ++ o ∷ []; free = now }) (length xs) o
   Changes-push xs free now o = record {
     there = ap (λ k. get_or (xs ++ o ∷ []) k None) (sym (add-zero (length xs))) ∙ get_or-append-add xs (o ∷ []) 0 None;
     elsewhere = λ t d. apart t d (cases_lt t (length xs));
@@ -80,10 +87,12 @@ module _ {T : Type 0} where
           nearer t d h = elim (cases_lt (length xs) t) [ inl k ↦ k | inr k ↦ absurd (d (omega (arith, h, k))) ]
 
   -- a slot below the length is live or free
-  pub exact_within : (xs : List (Option T)) (free : List ℕ) → IsExact xs free → (s : ℕ) → s < length xs → times s free + live (get_or xs s None) ≡ 1
+  pub exact_within : (xs : List (Option T)) (free : List ℕ) → IsExact xs free → (s : ℕ) → s < length xs
+      → times s free + live (get_or xs s None) ≡ 1
   exact_within xs free h s k = h s ∙ ap (λ b. cond b 1 0) (lt-ltb s (length xs) k)
 
-  pub exact_past : (xs : List (Option T)) (free : List ℕ) → IsExact xs free → (s : ℕ) → length xs ≤ s → times s free + live (get_or xs s None) ≡ 0
+  pub exact_past : (xs : List (Option T)) (free : List ℕ) → IsExact xs free → (s : ℕ) → length xs ≤ s
+      → times s free + live (get_or xs s None) ≡ 0
   exact_past xs free h s k = h s ∙ ap (λ b. cond b 1 0) (le-ltb s (length xs) k)
 
   -- the last of the free list is a slot, and not live
@@ -98,14 +107,19 @@ module _ {T : Type 0} where
   none_by (Some v) h = absurd (omega (arith, h))
 
   pub free_vacant : (xs : List (Option T)) (free : List ℕ) (s : ℕ) → IsExact xs (free ++ s ∷ []) → get_or xs s None ≡ None
-  free_vacant xs free s h = none_by _ (omega (arith, times-push_same s free, exact_within xs (free ++ s ∷ []) h s (free_within xs free s h)))
+  free_vacant xs free s h
+      = none_by _ (omega (arith, times-push_same s free, exact_within xs (free ++ s ∷ []) h s (free_within xs free s h)))
 
   -- a write with a free list that follows it
-  pub exact_set : (xs : List (Option T)) (free now : List ℕ) (s : ℕ) (o : Option T) → IsExact xs free → s < length xs → times s now + live o ≡ times s free + live (get_or xs s None) → ((t : ℕ) → t ≢ s → times t now ≡ times t free) → IsExact (set xs s o) now
+  pub exact_set : (xs : List (Option T)) (free now : List ℕ) (s : ℕ) (o : Option T) → IsExact xs free → s < length xs
+      → times s now + live o ≡ times s free + live (get_or xs s None) → ((t : ℕ) → t ≢ s → times t now ≡ times t free)
+      → IsExact (set xs s o) now
   exact_set xs free now s o h k here there t = elim (cases_eq t s) [
     | inl e ↦ subst (λ t. times t now + live (get_or (set xs s o) t None) ≡ cond (ltb t (length (set xs s o))) 1 0) (sym e) (
-        ap (λ v. times s now + live v) (get_or-set_same xs s o None k) ∙ here ∙ h s ∙ ap (λ n. cond (ltb s n) 1 0) (sym (length-set xs s o)))
-    | inr d ↦ ap₂ (λ a v. a + live v) (there t d) (get_or-set_other xs s t o None d) ∙ h t ∙ ap (λ n. cond (ltb t n) 1 0) (sym (length-set xs s o))
+        ap (λ v. times s now + live v) (get_or-set_same xs s o None k) ∙ here ∙ h s ∙ ap (λ n. cond (ltb s n) 1 0)
+        (sym (length-set xs s o)))
+    | inr d ↦ ap₂ (λ a v. a + live v) (there t d) (get_or-set_other xs s t o None d) ∙ h t ∙ ap (λ n. cond (ltb t n) 1 0)
+        (sym (length-set xs s o))
   ]
 
   pub exact_push : (xs : List (Option T)) (v : T) → IsExact xs [] → IsExact (xs ++ Some v ∷ []) []
@@ -114,7 +128,8 @@ module _ {T : Type 0} where
       longer : length (xs ++ Some v ∷ []) ≡ length xs + 1
       longer = length_push xs (Some v)
 
-      by_cases : (t < length xs) ⊎ (length xs ≤ t) → (t ≡ length xs) ⊎ (t ≡ length xs → ⊥) → 0 + live (get_or (xs ++ Some v ∷ []) t None) ≡ cond (ltb t (length (xs ++ Some v ∷ []))) 1 0
+      by_cases : (t < length xs) ⊎ (length xs ≤ t) → (t ≡ length xs) ⊎ (t ≡ length xs → ⊥)
+          → 0 + live (get_or (xs ++ Some v ∷ []) t None) ≡ cond (ltb t (length (xs ++ Some v ∷ []))) 1 0
       by_cases (inl k) _ =
           ap (λ o. 0 + live o) (get_or_append_left xs (Some v ∷ []) None t k) ∙ exact_within xs [] h t k
           ∙ ap (λ b. cond b 1 0) (sym (lt-ltb t (length (xs ++ Some v ∷ [])) (omega (arith, longer, k))))
@@ -131,7 +146,8 @@ module _ {T : Type 0} where
 
   -- a value that a clause asks for
   pub live_within : (xs : List (Option T)) (s : ℕ) → IsSome (get_or xs s None) → s < length xs
-  live_within xs s some = elim (cases_lt s (length xs)) [ inl k ↦ k | inr k ↦ absurd (true≢false (sym (subst IsSome (get_or_past xs s None k) some))) ]
+  live_within xs s some
+      = elim (cases_lt s (length xs)) [ inl k ↦ k | inr k ↦ absurd (true≢false (sym (subst IsSome (get_or_past xs s None k) some))) ]
 
   pub read_at : (xs : List (Option T)) (s : ℕ) (r o : Option T) → s < length xs → r ≡ get_or xs s r → r ≡ o → get_or xs s None ≡ o
   read_at xs s r o k read is = get_or_from_slice_get xs s r None (slice_get_read xs (length xs) s r refl k read) ∙ is
@@ -144,52 +160,76 @@ module _ {T : Type 0} where
   live_apart xs free s v h found = omega (arith, exact_within xs free h s (value_within xs s v found), ap live found)
 
   -- the four changes
-  pub set_back_is : (xs : List (Option T)) (free : List ℕ) (s : ℕ) (v w : T) → get_or xs s None ≡ Some v → undo (Changed s v) (record { slots = set xs s (Some w); free = free }) ≡ record { slots = xs; free = free }
-  set_back_is xs free s v w found = ap (λ (ys : List (Option T)). record { slots = ys; free = free }) (set_back xs s (Some v) (Some w) found)
+  pub set_back_is : (xs : List (Option T)) (free : List ℕ) (s : ℕ) (v w : T) → get_or xs s None ≡ Some v
+      → undo (Changed s v) (record { slots = set xs s (Some w); free = free }) ≡ record { slots = xs; free = free }
+  set_back_is xs free s v w found
+      = ap (λ (ys : List (Option T)). record { slots = ys; free = free }) (set_back xs s (Some v) (Some w) found)
 
-  pub set_sound : (m n : ℕ) (log : List (Change T)) (xs : List (Option T)) (free : List ℕ) (s : ℕ) (v w : T) → get_or xs s None ≡ Some v → AreSound m n log (record { slots = xs; free = free }) → AreSound m n (log ++ Changed s v ∷ []) (record { slots = set xs s (Some w); free = free })
+  pub set_sound : (m n : ℕ) (log : List (Change T)) (xs : List (Option T)) (free : List ℕ) (s : ℕ) (v w : T) → get_or xs s None ≡ Some v
+      → AreSound m n log (record { slots = xs; free = free })
+      → AreSound m n (log ++ Changed s v ∷ []) (record { slots = set xs s (Some w); free = free })
   set_sound m n log xs free s v w found h =
       let now = AreSound-now m n log _ h in
       let k = value_within xs s v found in
-      step_sound m n log (Changed s v) (record { slots = xs; free = free }) (record { slots = set xs s (Some w); free = free }) (set_back_is xs free s v w found)
-      (record { exact = exact_set xs free free s (Some w) now.exact k (ap (λ o. times s free + live o) (sym found)) (λ t d. refl); slots_fit = omega (arith, length-set xs s (Some w), now.slots_fit); free_fit = now.free_fit })
+      step_sound m n log (Changed s v) (record { slots = xs; free = free }) (record { slots = set xs s (Some w); free = free })
+      (set_back_is xs free s v w found)
+      (record {
+        exact = exact_set xs free free s (Some w) now.exact k (ap (λ o. times s free + live o) (sym found)) (λ t d. refl);
+        slots_fit = omega (arith, length-set xs s (Some w), now.slots_fit);
+        free_fit = now.free_fit;
+      })
       (omega (arith, length-set xs s (Some w), k)) h
 
-  pub remove_back_is : (xs : List (Option T)) (free : List ℕ) (s : ℕ) (v : T) → get_or xs s None ≡ Some v → undo (Removed s v) (record { slots = set xs s None; free = free ++ s ∷ [] }) ≡ record { slots = xs; free = free }
-  remove_back_is xs free s v found = ap₂ (λ (ys : List (Option T)) (f : List ℕ). record { slots = ys; free = f }) (set_back xs s (Some v) None found) (take_push free s)
+  pub remove_back_is : (xs : List (Option T)) (free : List ℕ) (s : ℕ) (v : T) → get_or xs s None ≡ Some v
+      → undo (Removed s v) (record { slots = set xs s None; free = free ++ s ∷ [] }) ≡ record { slots = xs; free = free }
+  remove_back_is xs free s v found
+      = ap₂ (λ (ys : List (Option T)) (f : List ℕ). record { slots = ys; free = f }) (set_back xs s (Some v) None found) (take_push free s)
 
-  pub remove_sound : (m n : ℕ) (log : List (Change T)) (xs : List (Option T)) (free : List ℕ) (s : ℕ) (v : T) → get_or xs s None ≡ Some v → length free + 1 ≤ n → AreSound m n log (record { slots = xs; free = free }) → AreSound m n (log ++ Removed s v ∷ []) (record { slots = set xs s None; free = free ++ s ∷ [] })
+  pub remove_sound : (m n : ℕ) (log : List (Change T)) (xs : List (Option T)) (free : List ℕ) (s : ℕ) (v : T) → get_or xs s None ≡ Some v
+      → length free + 1 ≤ n → AreSound m n log (record { slots = xs; free = free })
+      → AreSound m n (log ++ Removed s v ∷ []) (record { slots = set xs s None; free = free ++ s ∷ [] })
   remove_sound m n log xs free s v found room h =
       let now = AreSound-now m n log _ h in
       let k = value_within xs s v found in
-      step_sound m n log (Removed s v) (record { slots = xs; free = free }) (record { slots = set xs s None; free = free ++ s ∷ [] }) (remove_back_is xs free s v found)
+      step_sound m n log (Removed s v) (record { slots = xs; free = free }) (record { slots = set xs s None; free = free ++ s ∷ [] })
+      (remove_back_is xs free s v found)
       (record {
-        exact = exact_set xs free (free ++ s ∷ []) s None now.exact k (omega (arith, times-push_same s free, ap live found)) (λ t d. times-push_other t s free d);
+        exact = exact_set xs free (free ++ s ∷ []) s None now.exact k (omega (arith, times-push_same s free, ap live found))
+            (λ t d. times-push_other t s free d);
         slots_fit = omega (arith, length-set xs s None, now.slots_fit);
         free_fit = omega (arith, length_push free s, room);
       })
       (omega (arith, length-set xs s None, k)) h
 
-  pub put_back_is : (xs : List (Option T)) (free : List ℕ) (s : ℕ) (w : T) → get_or xs s None ≡ None → undo (Reused s) (record { slots = set xs s (Some w); free = free }) ≡ record { slots = xs; free = free ++ s ∷ [] }
-  put_back_is xs free s w vacant = ap (λ (ys : List (Option T)). record { slots = ys; free = free ++ s ∷ [] }) (set_back xs s None (Some w) vacant)
+  pub put_back_is : (xs : List (Option T)) (free : List ℕ) (s : ℕ) (w : T) → get_or xs s None ≡ None
+      → undo (Reused s) (record { slots = set xs s (Some w); free = free }) ≡ record { slots = xs; free = free ++ s ∷ [] }
+  put_back_is xs free s w vacant
+      = ap (λ (ys : List (Option T)). record { slots = ys; free = free ++ s ∷ [] }) (set_back xs s None (Some w) vacant)
 
-  pub put_sound : (m n : ℕ) (log : List (Change T)) (xs : List (Option T)) (free : List ℕ) (s : ℕ) (w : T) → AreSound m n log (record { slots = xs; free = free ++ s ∷ [] }) → AreSound m n (log ++ Reused s ∷ []) (record { slots = set xs s (Some w); free = free })
+  pub put_sound : (m n : ℕ) (log : List (Change T)) (xs : List (Option T)) (free : List ℕ) (s : ℕ) (w : T)
+      → AreSound m n log (record { slots = xs; free = free ++ s ∷ [] })
+      → AreSound m n (log ++ Reused s ∷ []) (record { slots = set xs s (Some w); free = free })
   put_sound m n log xs free s w h =
       let now = AreSound-now m n log _ h in
       let k = free_within xs free s now.exact in
       let vacant = free_vacant xs free s now.exact in
-      step_sound m n log (Reused s) (record { slots = xs; free = free ++ s ∷ [] }) (record { slots = set xs s (Some w); free = free }) (put_back_is xs free s w vacant)
+      step_sound m n log (Reused s) (record { slots = xs; free = free ++ s ∷ [] }) (record { slots = set xs s (Some w); free = free })
+      (put_back_is xs free s w vacant)
       (record {
-        exact = exact_set xs (free ++ s ∷ []) free s (Some w) now.exact k (omega (arith, times-push_same s free, ap live vacant)) (λ t d. sym (times-push_other t s free d));
+        exact = exact_set xs (free ++ s ∷ []) free s (Some w) now.exact k (omega (arith, times-push_same s free, ap live vacant))
+            (λ t d. sym (times-push_other t s free d));
         slots_fit = omega (arith, length-set xs s (Some w), now.slots_fit);
         free_fit = omega (arith, length_push free s, now.free_fit);
       })
       (omega (arith, length-set xs s (Some w), k)) h
 
-  pub grow_back_is : (xs : List (Option T)) (w : T) → undo Grown (record { slots = xs ++ Some w ∷ []; free = [] }) ≡ record { slots = xs; free = [] }
+  pub grow_back_is : (xs : List (Option T)) (w : T)
+      → undo Grown (record { slots = xs ++ Some w ∷ []; free = [] }) ≡ record { slots = xs; free = [] }
   grow_back_is xs w = ap (λ (ys : List (Option T)). record { slots = ys; free = [] }) (take_push xs (Some w))
 
-  pub grow_sound : (m n : ℕ) (log : List (Change T)) (xs : List (Option T)) (w : T) → length xs + 1 ≤ m → AreSound m n log (record { slots = xs; free = [] }) → AreSound m n (log ++ Grown ∷ []) (record { slots = xs ++ Some w ∷ []; free = [] })
+  pub grow_sound : (m n : ℕ) (log : List (Change T)) (xs : List (Option T)) (w : T) → length xs + 1 ≤ m
+      → AreSound m n log (record { slots = xs; free = [] })
+      → AreSound m n (log ++ Grown ∷ []) (record { slots = xs ++ Some w ∷ []; free = [] })
   grow_sound m n log xs w room h =
       let now = AreSound-now m n log _ h in
       step_sound m n log Grown (record { slots = xs; free = [] }) (record { slots = xs ++ Some w ∷ []; free = [] }) (grow_back_is xs w)
@@ -205,16 +245,20 @@ pub empty_by : {X : Type 0} (xs : List X) → length xs ≡ 0 → xs ≡ []
 empty_by [] h = refl
 empty_by (x ∷ xs) h = absurd (omega (arith, h))
 
-pub with_free : {T : Type 0} (m n : ℕ) (log : List (Change T)) (xs : List (Option T)) (f e : List ℕ) → f ≡ e → AreSound m n log (record { slots = xs; free = f }) → AreSound m n log (record { slots = xs; free = e })
+pub with_free : {T : Type 0} (m n : ℕ) (log : List (Change T)) (xs : List (Option T)) (f e : List ℕ) → f ≡ e
+    → AreSound m n log (record { slots = xs; free = f }) → AreSound m n log (record { slots = xs; free = e })
 with_free m n log xs f e same h = subst (λ (d : List ℕ). AreSound m n log (record { slots = xs; free = d })) same h
 
-pub kept_free : {T : Type 0} (log : List (Change T)) (xs : List (Option T)) (f e : List ℕ) → f ≡ e → undo_all log (record { slots = xs; free = e }) ≡ undo_all log (record { slots = xs; free = f })
+pub kept_free : {T : Type 0} (log : List (Change T)) (xs : List (Option T)) (f e : List ℕ) → f ≡ e
+    → undo_all log (record { slots = xs; free = e }) ≡ undo_all log (record { slots = xs; free = f })
 kept_free log xs f e same = ap (λ (d : List ℕ). undo_all log (record { slots = xs; free = d })) (sym same)
 
-pub undo_last : {T : Type 0} (m n : ℕ) (old log : List (Change T)) (x : Change T) (c : Contents T) → old ≡ log ++ x ∷ [] → AreSound m n old c → MayUndo x c × AreSound m n log (undo x c) × IsSoundArena m n (undo x c)
+pub undo_last : {T : Type 0} (m n : ℕ) (old log : List (Change T)) (x : Change T) (c : Contents T) → old ≡ log ++ x ∷ []
+    → AreSound m n old c → MayUndo x c × AreSound m n log (undo x c) × IsSoundArena m n (undo x c)
 undo_last m n old log x c e h =
     let t = AreSound-pop m n log x c (subst (λ xs. AreSound m n xs c) e h) in
     (t.1, t.2, AreSound-now m n log (undo x c) t.2)
 
-pub undo_last_kept : {T : Type 0} (old log : List (Change T)) (x : Change T) (c : Contents T) → old ≡ log ++ x ∷ [] → undo_all old c ≡ undo_all log (undo x c)
+pub undo_last_kept : {T : Type 0} (old log : List (Change T)) (x : Change T) (c : Contents T) → old ≡ log ++ x ∷ []
+    → undo_all old c ≡ undo_all log (undo x c)
 undo_last_kept old log x c e = ap (λ xs. undo_all xs c) e ∙ undo_all-push log x c

@@ -45,7 +45,8 @@ never_used vs ident free = by (search_of (has_ident ident) (reverse vs))
         let of = Contains-permutation (reverse vs) vs v (IsPermutation-sym vs (reverse vs) (IsPermutation-reverse vs)) c in
         absurd (free v of ((bytes_eq-Decides v.ident ident).0 h))
 
-pub addition_passes : (vs : List Version) (m : Message) (at : ℕ) (ident : List ℕ) (item : Item) → holder_of ident ≡ m.holder → last_of ident vs ≡ None
+pub addition_passes : (vs : List Version) (m : Message) (at : ℕ) (ident : List ℕ) (item : Item) → holder_of ident ≡ m.holder
+    → last_of ident vs ≡ None
     → item_fault item ≡ None → item.begin ≤ℤ day_of m.moment → mutation_refusal vs (header_of m) at (Add ident item) ≡ None
 addition_passes vs m at ident item home new right began =
     let own : bytes_eq (holder_of ident) m.holder ≡ true = (bytes_eq-Decides (holder_of ident) m.holder).1 home in
@@ -67,8 +68,10 @@ not_twice before v w e d =
     let other : bytes_eq v.ident w.ident ≡ false = apart v.ident w.ident d in
     list_any-append (λ x. bytes_eq (ident_of x) w.ident) before (addition v ∷ []) ∙ rw (e, other) refl
 
-pub additions_pass : (vs : List Version) (m : Message) (before : List Mutation) (ws : List Version) → ((w : Version) → Contains ws w → IsRightAddition vs m w)
-    → ((w : Version) → Contains ws w → has_twice before (addition w) ≡ false) → AllPairs Differ ws → MutationsRule vs m before (map addition ws) None
+pub additions_pass : (vs : List Version) (m : Message) (before : List Mutation) (ws : List Version)
+    → ((w : Version) → Contains ws w → IsRightAddition vs m w)
+    → ((w : Version) → Contains ws w → has_twice before (addition w) ≡ false) → AllPairs Differ ws
+    → MutationsRule vs m before (map addition ws) None
 unfolding MutationsRule
 additions_pass vs m before [] right new differ = refl
 additions_pass vs m before (w ∷ ws) right new differ = (

@@ -43,7 +43,8 @@ turned : (t : ℤ) (s new : State) → AreSame t s new → AreSame t new s
 turned t s new e = record { objects = sym e.objects; areas = λ h. sym (e.areas h) }
 
 -- so the same holders have something
-holders_go : (t : ℤ) (s new : State) → Good s → Good new → AreSame t s new → (h : List ℕ) → Contains (holders_at s t) h → Contains (holders_at new t) h
+holders_go : (t : ℤ) (s new : State) → Good s → Good new → AreSame t s new → (h : List ℕ) → Contains (holders_at s t) h
+    → Contains (holders_at new t) h
 holders_go t s new g n e h c = elim (holder_is s t g h c) [
   | inl v ↦
       let at = subst (λ l. Contains l (named v.0)) e.objects (in_map named (versions_at t s.versions) v.0 v.1) in
@@ -68,7 +69,8 @@ export_same t s new g n e h =
     let shapes : own_shapes h (areas_at t s.areas) ≡ own_shapes h (areas_at t new.areas) =
     area_is t h s.areas g.book.in_turn ∙ (e.areas h ∙ sym (area_is t h new.areas n.book.in_turn)) in
     let objects : flat_map (own_addition h) (versions_at t s.versions) ≡ flat_map (own_addition h) (versions_at t new.versions) =
-    sym (additions_by_name h (versions_at t s.versions)) ∙ (ap (flat_map (addition_of h)) e.objects ∙ additions_by_name h (versions_at t new.versions)) in
+    sym (additions_by_name h (versions_at t s.versions)) ∙ (ap (flat_map (addition_of h)) e.objects ∙ additions_by_name h
+    (versions_at t new.versions)) in
     ap (λ (x : Shapes). message h t x (flat_map (own_addition h) (versions_at t s.versions))) shapes
     ∙ ap (message h t (own_shapes h (areas_at t new.areas))) objects
 
@@ -95,7 +97,8 @@ module _ (limits : Limits) (s : State) (t : ℤ) (new : State) (b : IsBuilt limi
       holds_same t v.since v.until ∙ holds_now t v.since v.until n.0 n.1)
 
   -- what was loaded is exported again
-  pub exported_again : Good s → map named (rising (λ (v : Version). v.ident) (filter is_current new.versions)) ≡ map named (versions_at t s.versions)
+  pub exported_again : Good s
+      → map named (rising (λ (v : Version). v.ident) (filter is_current new.versions)) ≡ map named (versions_at t s.versions)
       → ((h : List ℕ) → area_of h new.areas ≡ area_at t h s.areas) → exported new t ≡ exported s t
   exported_again g objects areas = same_export t new s good g (record {
     objects = ap (λ (l : List Version). map named (rising (λ (v : Version). v.ident) l)) current_hold ∙ objects;

@@ -30,7 +30,8 @@ holds_same t since None = and-true (int_le since t)
 holds_same t since (Some u) = refl
 
 -- what has ended where the other began does not hold where that does
-pub not_both : (t since after : ℤ) (until end : Option ℤ) → HasEndedBy after until → holds t since until ≡ true → holds t after end ≡ true → ⊥
+pub not_both : (t since after : ℤ) (until end : Option ℤ) → HasEndedBy after until → holds t since until ≡ true → holds t after end ≡ true
+    → ⊥
 not_both t since from None end e h k = e
 not_both t since from (Some u) end e h k =
     both_ways (int_lt t u) (lt_false t u (omega (arith, linear, e, begun))) (and_parts (int_le since t) (int_lt t u) h).1
@@ -43,11 +44,13 @@ Differ v w = v.ident ≢ w.ident
 
 -- of one identification one version holds at most
 pub held_differ : (t : ℤ) (vs : List Version) → AllPairs Follows vs → AllPairs Differ (filter (holds_at t) vs)
-held_differ t vs p = pairs_with Follows Differ (λ v. holds_at t v ≡ true) (filter (holds_at t) vs) (AllPairs-filter Follows (holds_at t) vs p)
+held_differ t vs p
+    = pairs_with Follows Differ (λ v. holds_at t v ≡ true) (filter (holds_at t) vs) (AllPairs-filter Follows (holds_at t) vs p)
     (filter_passes (holds_at t) vs) (λ v w f h k e. not_both t v.since w.since v.until w.until (f e) h k)
 
 pub at_differ : (t : ℤ) (vs : List Version) → AllPairs Follows vs → AllPairs Differ (versions_at t vs)
-at_differ t vs p = in_order_pairs (has_lower (λ (v : Version). v.ident)) Differ (λ v w n e. n (sym e)) (filter (holds_at t) vs) (held_differ t vs p)
+at_differ t vs p
+    = in_order_pairs (has_lower (λ (v : Version). v.ident)) Differ (λ v w n e. n (sym e)) (filter (holds_at t) vs) (held_differ t vs p)
 
 -- a version that holds at the moment is one of all, and begins no later
 pub at_is : (t : ℤ) (vs : List Version) (v : Version) → Contains (versions_at t vs) v → Contains vs v × (v.since ≤ℤ t)
@@ -57,7 +60,8 @@ at_is t vs v c =
 
 -- ---- the area of a holder
 -- of one holder one area holds at most
-pub one_area : (t : ℤ) (areas : List AreaVersion) (a b : AreaVersion) → AllPairs FollowsApart areas → Contains areas a → Contains areas b → a.holder ≡ b.holder
+pub one_area : (t : ℤ) (areas : List AreaVersion) (a b : AreaVersion) → AllPairs FollowsApart areas → Contains areas a → Contains areas b
+    → a.holder ≡ b.holder
     → holds t a.since a.until ≡ true → holds t b.since b.until ≡ true → a ≡ b
 one_area t areas a b p ca cb e ha hb = elim (one_first FollowsApart areas a b p ca cb) [
   | inl q ↦ q
@@ -79,7 +83,8 @@ shapes_of None = refl
 shapes_of (Some a) = refl
 
 -- the area that is exported is the one at the moment
-pub area_is : (t : ℤ) (h : List ℕ) (areas : List AreaVersion) → AllPairs FollowsApart areas → own_shapes h (areas_at t areas) ≡ area_at t h areas
+pub area_is : (t : ℤ) (h : List ℕ) (areas : List AreaVersion) → AllPairs FollowsApart areas
+    → own_shapes h (areas_at t areas) ≡ area_at t h areas
 area_is t h areas p = shapes_of (find (is_own_area h) (areas_at t areas))
     ∙ ap (λ (o : Option AreaVersion). unwrap_or (option_map (λ (a : AreaVersion). a.shapes) o) [])
     (one_found (is_own_area h) (is_area_at t h) (areas_at t areas) areas to back one)
@@ -88,13 +93,18 @@ area_is t h areas p = shapes_of (find (is_own_area h) (areas_at t areas))
     is_held a c = out_filter (holds_area t) areas a (from_order (has_lower key) (filter (holds_area t) areas) a c)
 
     to : (a : AreaVersion) → Contains (areas_at t areas) a → is_own_area h a ≡ true → Contains areas a × (is_area_at t h a ≡ true)
-    to a c o = let k = is_held a c in (k.0, and_from (bytes_eq a.holder h) (holds_then t a.since a.until) o (sym (holds_same t a.since a.until) ∙ k.1))
+    to a c o = let k = is_held a c
+        in (k.0, and_from (bytes_eq a.holder h) (holds_then t a.since a.until) o (sym (holds_same t a.since a.until) ∙ k.1))
 
     back : (a : AreaVersion) → Contains areas a → is_area_at t h a ≡ true → Contains (areas_at t areas) a × (is_own_area h a ≡ true)
-    back a c o = let k = and_parts (bytes_eq a.holder h) (holds_then t a.since a.until) o in
-        (into_order (has_lower key) (filter (holds_area t) areas) a (in_filter (holds_area t) areas a c (holds_same t a.since a.until ∙ k.1)), k.0)
+    back a c o = let k = and_parts (bytes_eq a.holder h) (holds_then t a.since a.until) o in (
+      into_order (has_lower key) (filter (holds_area t) areas) a
+          (in_filter (holds_area t) areas a c (holds_same t a.since a.until ∙ k.1)),
+      k.0,
+    )
 
-    one : (a b : AreaVersion) → Contains (areas_at t areas) a → Contains (areas_at t areas) b → is_own_area h a ≡ true → is_own_area h b ≡ true → a ≡ b
+    one : (a b : AreaVersion) → Contains (areas_at t areas) a → Contains (areas_at t areas) b → is_own_area h a ≡ true
+        → is_own_area h b ≡ true → a ≡ b
     one a b ca cb oa ob = let ka = is_held a ca in let kb = is_held b cb in
         one_area t areas a b p ka.0 kb.0 ((bytes_eq-Decides a.holder h).0 oa ∙ sym ((bytes_eq-Decides b.holder h).0 ob)) ka.1 kb.1
 
@@ -113,5 +123,7 @@ held_is t areas a p c = by (search_of (is_area_at t a.holder) areas)
         absurd (both_ways (is_area_at t a.holder a) (n a is.0) own)
     by (hit b e d o) =
         let k = and_parts (bytes_eq b.holder a.holder) (holds_then t b.since b.until) o in
-        let same : b ≡ a = one_area t areas b a p d is.0 ((bytes_eq-Decides b.holder a.holder).0 k.0) (holds_same t b.since b.until ∙ k.1) is.1 in
-        ap (λ (r : Option AreaVersion). unwrap_or (option_map (λ (x : AreaVersion). x.shapes) r) []) e ∙ ap (λ (x : AreaVersion). x.shapes) same
+        let same : b ≡ a
+        = one_area t areas b a p d is.0 ((bytes_eq-Decides b.holder a.holder).0 k.0) (holds_same t b.since b.until ∙ k.1) is.1 in
+        ap (λ (r : Option AreaVersion). unwrap_or (option_map (λ (x : AreaVersion). x.shapes) r) []) e ∙ ap (λ (x : AreaVersion). x.shapes)
+        same

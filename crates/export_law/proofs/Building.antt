@@ -106,7 +106,8 @@ module _ (limits : Limits) (s : State) (t : ℤ) (h : List ℕ) (rest : List (Li
 
   -- additions end nothing
   ends_none : (x : Mutation) (ident : List ℕ) → Contains m.mutations x → IsEnding x ident → ⊥
-  ends_none x ident c e = let w = out_map addition news x (subst (λ ms. Contains ms x) mutations_are c) in subst (λ y. IsEnding y ident) (sym w.2) e
+  ends_none x ident c e = let w = out_map addition news x (subst (λ ms. Contains ms x) mutations_are c) in subst (λ y. IsEnding y ident)
+      (sym w.2) e
 
   still : (v : Version) → touched_by t m.mutations v ≡ v
   still v = elim (touch_cases t m.mutations v) [ inl q ↦ q | inr e ↦ absurd (ends_none e.by v.ident e.of e.ends) ]
@@ -146,7 +147,8 @@ module _ (limits : Limits) (s : State) (t : ℤ) (h : List ℕ) (rest : List (Li
   old_still v c = subst (λ l. Contains l v) (sym versions_are) (Contains-append_left new.versions (map fresh news) v c)
 
   new_there : (w : Version) → Contains news w → Contains then.versions (fresh w)
-  new_there w c = subst (λ l. Contains l (fresh w)) (sym versions_are) (Contains-append_right new.versions (map fresh news) (fresh w) (in_map fresh news w c))
+  new_there w c = subst (λ l. Contains l (fresh w)) (sym versions_are)
+      (Contains-append_right new.versions (map fresh news) (fresh w) (in_map fresh news w c))
 
   whole_then : (w : Version) → Contains (versions_at t s.versions) w
       → Contains rest w.holder ⊎ ((v : Version) × Contains then.versions v × (named v ≡ named w))
@@ -182,12 +184,14 @@ module _ (limits : Limits) (s : State) (t : ℤ) (h : List ℕ) (rest : List (Li
   unmet_then : All (λ (g : List ℕ). moment_of g then.last ≡ None) rest
   unmet_then = all_from (λ (g : List ℕ). moment_of g then.last ≡ None) rest (λ g c.
       moment_of_others h g t new.last (λ q. All-contains (λ y. h ≢ y) rest g (pairs_head (λ x y. x ≢ y) h rest differ) c (sym q))
-      ∙ All-contains (λ (x : List ℕ). moment_of x new.last ≡ None) rest g (All-tail (λ (x : List ℕ). moment_of x new.last ≡ None) h rest b.unmet) c)
+      ∙ All-contains (λ (x : List ℕ). moment_of x new.last ≡ None) rest g
+      (All-tail (λ (x : List ℕ). moment_of x new.last ≡ None) h rest b.unmet) c)
 
   late_then : (g : List ℕ) → IfSome (moment_of g then.last) (λ u. u ≤ℤ t)
   late_then g = elim (cases_Bool (bytes_eq g h)) [
     | inl e ↦
-        let is : moment_of g then.last ≡ Some t = ap (λ (x : List ℕ). moment_of x then.last) ((bytes_eq-Decides g h).0 e) ∙ moment_after h t new.last in
+        let is : moment_of g then.last ≡ Some t
+        = ap (λ (x : List ℕ). moment_of x then.last) ((bytes_eq-Decides g h).0 e) ∙ moment_after h t new.last in
         subst (λ (o : Option ℤ). IfSome o (λ u. u ≤ℤ t)) (sym is) (≤ℤ_refl t)
     | inr e ↦
         let d : g ≢ h = λ q. both_ways (bytes_eq g h) e ((bytes_eq-Decides g h).1 q) in
@@ -200,7 +204,8 @@ module _ (limits : Limits) (s : State) (t : ℤ) (h : List ℕ) (rest : List (Li
     unmet = unmet_then;
     room = let r = b.room in let more = more_last h t new.last in omega (arith, r, more);
     late = late_then;
-    newest = subst (λ (o : Option ℤ). IfSome o (λ u. u ≤ℤ t)) (sym (newest_after h t (own_shapes h (areas_at t s.areas)) new.areas b.newest)) (≤ℤ_refl t);
+    newest = subst (λ (o : Option ℤ). IfSome o (λ u. u ≤ℤ t))
+        (sym (newest_after h t (own_shapes h (areas_at t s.areas)) new.areas b.newest)) (≤ℤ_refl t);
     current = current_then;
     from = from_then;
     whole = whole_then;

@@ -36,11 +36,13 @@ split_feed : (xs ys : List ℕ) → split (xs ++ 10 ∷ ys) ≡ split xs ++ spli
 split_feed [] ys = refl
 split_feed (x ∷ xs) ys = by (is_feed x) (split_feed xs ys) (some_line xs)
   where
-    onto : (l r : List (List ℕ)) → (line : List ℕ) × (lines : List (List ℕ)) × (l ≡ line ∷ lines) → onto_first x (l ++ r) ≡ onto_first x l ++ r
+    onto : (l r : List (List ℕ)) → (line : List ℕ) × (lines : List (List ℕ)) × (l ≡ line ∷ lines)
+        → onto_first x (l ++ r) ≡ onto_first x l ++ r
     onto l r k = ap (λ (z : List (List ℕ)). onto_first x (z ++ r)) k.2 ∙ sym (ap (λ (z : List (List ℕ)). onto_first x z ++ r) k.2)
 
     by : (t : Bool) → split (xs ++ 10 ∷ ys) ≡ split xs ++ split ys → (line : List ℕ) × (lines : List (List ℕ)) × (split xs ≡ line ∷ lines)
-        → cond t ([] ∷ split (xs ++ 10 ∷ ys)) (onto_first x (split (xs ++ 10 ∷ ys))) ≡ cond t ([] ∷ split xs) (onto_first x (split xs)) ++ split ys
+        → cond t ([] ∷ split (xs ++ 10 ∷ ys)) (onto_first x (split (xs ++ 10 ∷ ys))) ≡ cond t ([] ∷ split xs)
+        (onto_first x (split xs)) ++ split ys
     by true e k = ap (λ (l : List (List ℕ)). [] ∷ l) e
     by false e k = ap (onto_first x) e ∙ onto (split xs) (split ys) k
 
@@ -78,7 +80,8 @@ no_other_end [] (line ∷ lines) rest n e = let q : ende ≡ line = cc in absurd
 no_other_end (a ∷ []) [] rest n e = cc
 no_other_end (a ∷ b ∷ []) [] rest n e = cc
 no_other_end (a ∷ b ∷ c ∷ front) [] rest n e = cc
-no_other_end (a ∷ front) (line ∷ lines) rest n e = let q : front ++ ende ∷ rest ≡ lines ++ ende ∷ [] ∷ [] = cc in no_other_end front lines rest n.1 q
+no_other_end (a ∷ front) (line ∷ lines) rest n e = let q : front ++ ende ∷ rest ≡ lines ++ ende ∷ [] ∷ [] = cc in no_other_end front lines
+    rest n.1 q
 
 -- ---- one text
 module _ (text : List ℕ) (m : Message) (c : IsCanonical text m) where

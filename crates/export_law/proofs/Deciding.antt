@@ -56,7 +56,8 @@ pub record IsReady (limits : Limits) (s : State) (t : ℤ) (h : List ℕ) (new :
   pub newest : IfSome (newest_area new.areas) (λ u. u ≤ℤ t)
   pub apart : (g : List ℕ) → g ≢ h → AreApart (area_at t h s.areas) (area_of g new.areas)
 
-module _ (limits : Limits) (s : State) (t : ℤ) (h : List ℕ) (new : State) (k : IsKept limits s) (n : IsKept limits new) (r : IsReady limits s t h new) where
+module _ (limits : Limits) (s : State) (t : ℤ) (h : List ℕ) (new : State) (k : IsKept limits s) (n : IsKept limits new)
+    (r : IsReady limits s t h new) where
   abbrev m : Message
   m = export_of s t h
 
@@ -97,7 +98,8 @@ module _ (limits : Limits) (s : State) (t : ℤ) (h : List ℕ) (new : State) (k
       free v d q = not_own v d (sym (All-contains IsAtHome new.versions v n.home d) ∙ (ap holder_of q ∙ home))
 
       in_time : w.item.begin ≤ℤ day_of t
-      in_time = no_later w.item.begin (day_of w.since) (day_of t) (All-contains BeganInTime s.versions w k.began is.0) (days_rise w.since t is.1)
+      in_time = no_later w.item.begin (day_of w.since) (day_of t) (All-contains BeganInTime s.versions w k.began is.0)
+          (days_rise w.since t is.1)
 
   mutations_pass : MutationsRule new.versions m [] m.mutations None
   mutations_pass = subst (λ ms. MutationsRule new.versions m [] ms None) (sym mutations_are)
@@ -105,7 +107,8 @@ module _ (limits : Limits) (s : State) (t : ℤ) (h : List ℕ) (new : State) (k
 
   -- ---- the map that it leaves
   none_yet : parts_now h new.versions ≡ []
-  none_yet = ap (map part_of) (kept-none (is_object_of h) new.versions (λ v c. ap (λ (b : Bool). b && is_current v) (apart v.holder h (not_own v c))))
+  none_yet = ap (map part_of)
+      (kept-none (is_object_of h) new.versions (λ v c. ap (λ (b : Bool). b && is_current v) (apart v.holder h (not_own v c))))
 
   map_is : map_now h (after new m) ≡ record { area = area_at t h s.areas; parts = map part_of news }
   map_is = map_then new m ∙ same_map (own_shapes h (areas_at t s.areas)) (area_at t h s.areas)
@@ -119,7 +122,8 @@ module _ (limits : Limits) (s : State) (t : ℤ) (h : List ℕ) (new : State) (k
   -- ---- room
   count_then : count_by (is_object_of h) (after new m).versions ≤ limits.objects
   count_then = subst (λ c. c ≤ limits.objects) (sym (ap (λ (x : HolderParts). length x.parts) map_is ∙ own_count h t s)
-      ∙ (length-map (filter (is_object_of h) (after new m).versions) part_of ∙ length-filter (is_object_of h) (after new m).versions)) (k.few t h)
+      ∙ (length-map (filter (is_object_of h) (after new m).versions) part_of ∙ length-filter (is_object_of h)
+      (after new m).versions)) (k.few t h)
 
   area_passes : KeepsAreas new.areas h (own_shapes h (areas_at t s.areas))
   area_passes = subst (KeepsAreas new.areas h) (sym shapes_are) (record { sound = (k.sound.good.maps t h).area; apart = r.apart })
@@ -137,7 +141,10 @@ module _ (limits : Limits) (s : State) (t : ℤ) (h : List ℕ) (new : State) (k
   -- rule by rule
   pub is_taken : Decision limits new m None
   unfolding Decision
-  is_taken = (stale, (stale_area, (mutations_pass, (room_for_holder, (room_for_objects, (area_passes, (right.levels, (right.noded, right.tiled))))))))
+  is_taken = (
+    stale,
+    (stale_area, (mutations_pass, (room_for_holder, (room_for_objects, (area_passes, (right.levels, (right.noded, right.tiled))))))),
+  )
     where
       stale : None ≡ stale_message new.last m
       stale = sym (ap (not_later t) r.unmet)

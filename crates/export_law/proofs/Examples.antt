@@ -39,7 +39,8 @@ item x looks = record {
 }
 
 version : List ℕ → List ℕ → Item → ℕ → Option ℤ → Version
-version holder ident own since until = record { holder = holder; ident = ident; item = own; since = pos since; until = until; end_day = None }
+version holder ident own since until
+    = record { holder = holder; ident = ident; item = own; since = pos since; until = until; end_day = None }
 
 area : List ℕ → ℕ → ℕ → AreaVersion
 area holder x since = record { holder = holder; shapes = cell x ∷ []; since = pos since; until = None }
@@ -75,7 +76,8 @@ state = record {
 }
 
 message : ℕ → List ℕ → ℕ → List ℕ → Item → Message
-message moment holder x ident own = record { holder = holder; moment = pos moment; area = Some (cell x ∷ []); mutations = Add ident own ∷ [] }
+message moment holder x ident own
+    = record { holder = holder; moment = pos moment; area = Some (cell x ∷ []); mutations = Add ident own ∷ [] }
 
 -- at 2, rising by holder, with the old version of the object
 at_2 : exported state (pos 2) ≡ message 2 g1 0 a sand ∷ message 2 g2 10 b yard ∷ []

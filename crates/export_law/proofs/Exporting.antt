@@ -49,7 +49,8 @@ module _ (h : List ℕ) where
   additions_are (v ∷ l) = by (is_own h v) (additions_are l)
     where
       by : (t : Bool) → flat_map (own_addition h) l ≡ map addition (filter (is_own h) l)
-          → cond t (addition v ∷ []) [] ++ flat_map (own_addition h) l ≡ map addition (cond t (v ∷ filter (is_own h) l) (filter (is_own h) l))
+          → cond t (addition v ∷ []) [] ++ flat_map (own_addition h) l ≡ map addition
+          (cond t (v ∷ filter (is_own h) l) (filter (is_own h) l))
       by true e = ap (λ (k : List Mutation). addition v ∷ k) e
       by false e = e
 
@@ -70,7 +71,8 @@ module _ (h : List ℕ) where
   edges_are (v ∷ l) = by (is_own h v) (is_ground (part_of v)) refl (edges_are l)
     where
       by : (b c : Bool) → is_ground (part_of v) ≡ c → flat_map ground_edges l ≡ edges_in (filter (is_own h) l)
-          → cond (b && c) (shape_edges v.item.rings) [] ++ flat_map ground_edges l ≡ edges_in (cond b (v ∷ filter (is_own h) l) (filter (is_own h) l))
+          → cond (b && c) (shape_edges v.item.rings) [] ++ flat_map ground_edges l ≡ edges_in
+          (cond b (v ∷ filter (is_own h) l) (filter (is_own h) l))
       by true true q e = rw q (ap (λ (k : List Segment). shape_edges v.item.rings ++ k) e)
       by true false q e = rw q e
       by false true q e = e
@@ -107,7 +109,8 @@ module _ (h : List ℕ) where
     edges_moved : IsPermutation (edges_in made) (edges_in own)
     edges_moved = subst (λ l. IsPermutation (edges_in l) (edges_in own)) (own_at t s.versions)
         (subst (λ e. IsPermutation e (edges_in own)) (edges_are then)
-        (subst (IsPermutation (flat_map ground_edges then)) (edges_are (versions_at t s.versions)) (in_order_flat by_ident ground_edges then)))
+        (subst (IsPermutation (flat_map ground_edges then)) (edges_are (versions_at t s.versions))
+        (in_order_flat by_ident ground_edges then)))
 
     abbrev area : Shapes
     area = area_at t h s.areas
@@ -127,11 +130,13 @@ module _ (h : List ℕ) where
       idents_differ = pairs_read (λ (x y : LevelItem). x.ident ≢ y.ident) part_of own (own_differ g.in_turn)
 
       part_before : (x : LevelItem) → Contains (map part_of own) x → Contains (map part_of made) x
-      part_before x c = Contains-permutation (map part_of own) (map part_of made) x (IsPermutation-sym (map part_of made) (map part_of own) parts_moved) c
+      part_before x c = Contains-permutation (map part_of own) (map part_of made) x
+          (IsPermutation-sym (map part_of made) (map part_of own) parts_moved) c
 
       levels_then : LevelsHold (map part_of own)
       levels_then i j d l n broken = elim (one_first (λ x y. BreakLevels x y → ⊥) (map part_of made) (at i) (at j) (g.maps t h).levels
-          (part_before (at i) (Contains-get_or (map part_of own) i d (omega (arith, l, n)))) (part_before (at j) (Contains-get_or (map part_of own) j d n))) [
+          (part_before (at i) (Contains-get_or (map part_of own) i d (omega (arith, l, n))))
+          (part_before (at j) (Contains-get_or (map part_of own) j d n))) [
             | inl q ↦ absurd (idents_differ i j d l n (ap (λ (x : LevelItem). x.ident) q))
             | inr k ↦ elim k [ inl f ↦ f broken | inr f ↦ f (other_way (at i) (at j) broken) ]
           ]

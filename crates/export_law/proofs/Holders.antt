@@ -66,7 +66,8 @@ module _ (s : State) (t : ℤ) (g : Good s) where
 
   -- each holder of an object is one of them
   pub has_object : (v : Version) → Contains (versions_at t s.versions) v → Contains (holders_at s t) v.holder
-  has_object v c = among v.holder (Contains-append_right of_areas of_objects v.holder (in_map (λ (w : Version). w.holder) (versions_at t s.versions) v c))
+  has_object v c = among v.holder
+      (Contains-append_right of_areas of_objects v.holder (in_map (λ (w : Version). w.holder) (versions_at t s.versions) v c))
 
   -- and each holder with an area that has a shape
   pub has_area : (h : List ℕ) → Contains (holders_at s t) h ⊎ (area_at t h s.areas ≡ [])
@@ -98,7 +99,8 @@ module _ (s : State) (t : ℤ) (g : Good s) where
       shaped : (a : AreaVersion) × Contains (filter has_shape (areas_at t s.areas)) a × (a.holder ≡ h) → area_at t h s.areas ≢ []
       shaped a e =
           let k = out_filter has_shape (areas_at t s.areas) a.0 a.1 in
-          let none : a.0.shapes ≡ [] = sym (held_is t s.areas a.0 g.book.in_turn k.0) ∙ (ap (λ (x : List ℕ). area_at t x s.areas) a.2 ∙ e) in
+          let none : a.0.shapes ≡ []
+          = sym (held_is t s.areas a.0 g.book.in_turn k.0) ∙ (ap (λ (x : List ℕ). area_at t x s.areas) a.2 ∙ e) in
           both_ways (nat_lt 0 (length a.0.shapes)) (ap (λ l. nat_lt 0 (length l)) none) k.1
 
   -- each of them has a last moment
@@ -106,7 +108,8 @@ module _ (s : State) (t : ℤ) (g : Good s) where
   last_of_area h c =
       let a = out_map (λ (b : AreaVersion). b.holder) (filter has_shape (areas_at t s.areas)) h c in
       let held = (out_filter has_shape (areas_at t s.areas) a.0 a.1).0 in
-      let before = from_order (has_lower (λ (b : AreaVersion). b.holder)) (filter (λ (b : AreaVersion). holds t b.since b.until) s.areas) a.0 held in
+      let before = from_order (has_lower (λ (b : AreaVersion). b.holder)) (filter (λ (b : AreaVersion). holds t b.since b.until) s.areas)
+      a.0 held in
       let of = (out_filter (λ (b : AreaVersion). holds t b.since b.until) s.areas a.0 before).0 in
       let d = All-contains (IsDatedArea s.last) s.areas a.0 g.areas_dated of in
       subst (Contains (map holder_in s.last)) a.2 (has_last s.last a.0.holder d.moment d.is)
@@ -114,7 +117,8 @@ module _ (s : State) (t : ℤ) (g : Good s) where
   last_of_object : (h : List ℕ) → Contains of_objects h → Contains (map holder_in s.last) h
   last_of_object h c =
       let v = out_map (λ (w : Version). w.holder) (versions_at t s.versions) h c in
-      let d = All-contains (λ (w : Version). IsDated s.last w.holder w.since w.until) s.versions v.0 g.dated (at_is t s.versions v.0 v.1).0 in
+      let d
+      = All-contains (λ (w : Version). IsDated s.last w.holder w.since w.until) s.versions v.0 g.dated (at_is t s.versions v.0 v.1).0 in
       subst (Contains (map holder_in s.last)) v.2 (has_last s.last v.0.holder d.moment d.is)
 
   has_moment : (h : List ℕ) → Contains (holders_at s t) h → Contains (map holder_in s.last) h

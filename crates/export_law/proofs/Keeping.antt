@@ -72,7 +72,8 @@ module _ (limits : Limits) (s : State) (m : Message) (k : IsKept limits s) (d : 
 
   home_then : Has IsAtHome
   home_then = both IsAtHome
-      (λ v c. ap holder_of (touched-ident m.moment m.mutations v) ∙ All-contains IsAtHome s.versions v k.home c ∙ sym (touched-holder m.moment m.mutations v))
+      (λ v c. ap holder_of (touched-ident m.moment m.mutations v) ∙ All-contains IsAtHome s.versions v k.home
+      c ∙ sym (touched-holder m.moment m.mutations v))
       (λ v c.
       let b = begun_is m.holder m.moment m.mutations v c in
       let r = none_refused s.versions m [] m.mutations mutations b.by b.of in
@@ -82,7 +83,8 @@ module _ (limits : Limits) (s : State) (m : Message) (k : IsKept limits s) (d : 
   began_then : Has BeganInTime
   began_then = both BeganInTime
       (λ v c. subst (λ (y : Item). y.begin ≤ℤ day_of (touched_by m.moment m.mutations v).since) (sym (touched-item m.moment m.mutations v))
-      (subst (λ t. v.item.begin ≤ℤ day_of t) (sym (touched-since m.moment m.mutations v)) (All-contains BeganInTime s.versions v k.began c)))
+      (subst (λ t. v.item.begin ≤ℤ day_of t) (sym (touched-since m.moment m.mutations v))
+      (All-contains BeganInTime s.versions v k.began c)))
       (λ v c.
       let b = begun_is m.holder m.moment m.mutations v c in
       let r = none_refused s.versions m [] m.mutations mutations b.by b.of in
@@ -103,13 +105,15 @@ module _ (limits : Limits) (s : State) (m : Message) (k : IsKept limits s) (d : 
     own : m.moment ≤ℤ t → length (parts_at t m.holder (after s m).versions) ≤ limits.objects
     own l =
         let last = moment_after m.holder m.moment s.last in
-        let late : IfSome (moment_of m.holder (after s m).last) (λ u. u ≤ℤ t) = subst (λ (o : Option ℤ). IfSome o (λ u. u ≤ℤ t)) (sym last) l in
+        let late : IfSome (moment_of m.holder (after s m).last) (λ u. u ≤ℤ t)
+        = subst (λ (o : Option ℤ). IfSome o (λ u. u ≤ℤ t)) (sym last) l in
         let are_now = parts_are_now (after s m).last m.holder t late (after s m).versions sound_then.good.dated in
         subst (λ objects. length objects ≤ limits.objects) (sym are_now) (sound_then.few m.holder)
 
     few_then : (h : List ℕ) → length (parts_at t h (after s m).versions) ≤ limits.objects
     few_then h = by_lt_z t m.moment (λ l. earlier l h) (λ l. elim (cases_Bool (bytes_eq h m.holder)) [
-      | inl e ↦ subst (λ (x : List ℕ). length (parts_at t x (after s m).versions) ≤ limits.objects) (sym ((bytes_eq-Decides h m.holder).0 e)) (own l)
+      | inl e ↦ subst (λ (x : List ℕ). length (parts_at t x (after s m).versions) ≤ limits.objects)
+          (sym ((bytes_eq-Decides h m.holder).0 e)) (own l)
       | inr e ↦ others h (λ q. both_ways (bytes_eq h m.holder) e ((bytes_eq-Decides h m.holder).1 q))
     ])
 
@@ -123,7 +127,8 @@ module _ (limits : Limits) (s : State) (m : Message) (k : IsKept limits s) (d : 
   }
 
 -- ---- texts one after another
-text_kept : (limits : Limits) (s : State) (text : List ℕ) (answer : Answer) (t : State) → IsKept limits s → AnswersText limits s text answer t
+text_kept : (limits : Limits) (s : State) (text : List ℕ) (answer : Answer) (t : State) → IsKept limits s
+    → AnswersText limits s text answer t
     → IsKept limits t
 text_kept limits s text answer t k (inl r) = subst (IsKept limits) (sym r.same) k
 text_kept limits s text answer t k (inr r) = by answer r.step
@@ -138,8 +143,10 @@ unfolding Run
 run_kept limits s [] [] t k r = subst (IsKept limits) (sym r) k
 run_kept limits s [] (answer ∷ answers) t k r = absurd r
 run_kept limits s (text ∷ texts) [] t k r = absurd r
-run_kept limits s (text ∷ texts) (answer ∷ answers) t k r = run_kept limits r.0 texts answers t (text_kept limits s text answer r.0 k r.1) r.2
+run_kept limits s (text ∷ texts) (answer ∷ answers) t k r
+    = run_kept limits r.0 texts answers t (text_kept limits s text answer r.0 k r.1) r.2
 
 -- what texts lead to from the opening state
-pub reached_kept : (limits : Limits) (texts : List (List ℕ)) (answers : List Answer) (s : State) → Run limits opening texts answers s → IsKept limits s
+pub reached_kept : (limits : Limits) (texts : List (List ℕ)) (answers : List Answer) (s : State) → Run limits opening texts answers s
+    → IsKept limits s
 reached_kept limits texts answers s r = run_kept limits opening texts answers s (kept_opening limits) r

@@ -39,7 +39,8 @@ shape_goes_on (outer ∷ holes) = (refl, holes_go_on holes)
 
 shapes_go_on : (shapes : List (List (List Vertex))) → AllByRecursion GoesOn (flat_map shape_lines shapes)
 shapes_go_on [] = tt
-shapes_go_on (shape ∷ shapes) = all_join GoesOn (shape_lines shape) (flat_map shape_lines shapes) (shape_goes_on shape) (shapes_go_on shapes)
+shapes_go_on (shape ∷ shapes)
+    = all_join GoesOn (shape_lines shape) (flat_map shape_lines shapes) (shape_goes_on shape) (shapes_go_on shapes)
 
 area_goes_on : (area : Option (List (List (List Vertex)))) → AllByRecursion GoesOn (area_lines area)
 unfolding is_done
@@ -62,7 +63,8 @@ before_last m = Header m.holder m.moment ∷ (area_lines m.area ++ flat_map muta
 
 pub all_go_on : (m : Message) → AllByRecursion GoesOn (before_last m)
 unfolding is_done
-all_go_on m = (refl, all_join GoesOn (area_lines m.area) (flat_map mutation_lines m.mutations) (area_goes_on m.area) (mutations_go_on m.mutations))
+all_go_on m
+    = (refl, all_join GoesOn (area_lines m.area) (flat_map mutation_lines m.mutations) (area_goes_on m.area) (mutations_go_on m.mutations))
 
 pub lines_are : (m : Message) → message_lines m ≡ before_last m ++ Done ∷ []
 lines_are m = ap (λ (l : List Token). Header m.holder m.moment ∷ l)
@@ -80,7 +82,8 @@ unfolding is_done
 not_done x h q = both_ways (is_done x) h (ap is_done q)
 
 no_end_line : (line : List ℕ) (token : Token) → GoesOn token → IsLine printed line token → line ≢ ende
-no_end_line line token g p e = not_done token g (one_token ende token Done (subst (λ l. IsLine wide l token) e (printed_is_wide line token p)) an_end)
+no_end_line line token g p e
+    = not_done token g (one_token ende token Done (subst (λ l. IsLine wide l token) e (printed_is_wide line token p)) an_end)
 
 abbrev pub NoEnds : List (List ℕ) → Type 0
 NoEnds lines = AllByRecursion (λ line. line ≢ ende) lines
@@ -91,7 +94,8 @@ pub record EndsOnce (lines : List (List ℕ)) : Type 0 where
   pub no_ends : NoEnds front
   pub is : lines ≡ front ++ ende ∷ []
 
-pub ends_once : (lines : List (List ℕ)) (tokens : List Token) → AllByRecursion GoesOn tokens → AreLines printed lines (tokens ++ Done ∷ []) → EndsOnce lines
+pub ends_once : (lines : List (List ℕ)) (tokens : List Token) → AllByRecursion GoesOn tokens → AreLines printed lines (tokens ++ Done ∷ [])
+    → EndsOnce lines
 ends_once [] [] g p = absurd p
 ends_once (line ∷ []) [] g p = record { front = []; no_ends = tt; is = ap (λ (l : List ℕ). l ∷ []) (end_line line p.0) }
 ends_once (line ∷ other ∷ lines) [] g p = absurd p.1

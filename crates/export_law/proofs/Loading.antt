@@ -52,14 +52,18 @@ module _ (limits : Limits) (s : State) (t : ℤ) (k : IsKept limits s) where
   takes (text ∷ texts) [] new b differ are short within = absurd are
   takes (text ∷ texts) (h ∷ rest) new b differ are short within =
       let m = export_of s t h in
-      let later = takes texts rest (after new m) (built_then limits s t h rest new k b differ) (pairs_tail (λ x y. x ≢ y) h rest differ) are.1
+      let later
+      = takes texts rest (after new m) (built_then limits s t h rest new k b differ) (pairs_tail (λ x y. x ≢ y) h rest differ) are.1
       (All-tail IsShort text texts short) (All-tail IsWithin m (map (export_of s t) rest) within) in (
         later.0,
         (
           after new m,
           inr (record {
             message = m;
-            read = (All-head IsShort text texts short, reads_back limits text m are.0 (All-head IsWithin m (map (export_of s t) rest) within));
+            read = (
+              All-head IsShort text texts short,
+              reads_back limits text m are.0 (All-head IsWithin m (map (export_of s t) rest) within),
+            );
             step = (decided limits s t h rest new k b differ, refl);
           }),
           later.1,
@@ -82,13 +86,15 @@ module _ (limits : Limits) (s : State) (t : ℤ) (k : IsKept limits s) where
     named_rises l p = pairs_read (λ (n o : Named). has_lower (λ (x : Named). x.ident) n o ≡ true) named l p
 
     current_differ : AllPairs Differ (filter is_current new.versions)
-    current_differ = AllPairs-filter Differ is_current new.versions (pairs_with Follows Differ (λ (v : Version). v.until ≡ None) new.versions
+    current_differ
+        = AllPairs-filter Differ is_current new.versions (pairs_with Follows Differ (λ (v : Version). v.until ≡ None) new.versions
         b.kept.sound.good.in_turn b.current (λ v w f u x e. subst (HasEndedBy w.since) u (f e)))
 
     to : (n : Named) → Contains (map named now) n → Contains (map named (versions_at t s.versions)) n
     to n c =
         let v = out_map named now n c in
-        let w = b.from v.0 (out_filter is_current new.versions v.0 (from_order (has_lower ident) (filter is_current new.versions) v.0 v.1)).0 in
+        let w = b.from v.0
+        (out_filter is_current new.versions v.0 (from_order (has_lower ident) (filter is_current new.versions) v.0 v.1)).0 in
         subst (Contains (map named (versions_at t s.versions))) (w.2 ∙ v.2) (in_map named (versions_at t s.versions) w.0 w.1)
 
     back : (n : Named) → Contains (map named (versions_at t s.versions)) n → Contains (map named now) n
@@ -96,24 +102,32 @@ module _ (limits : Limits) (s : State) (t : ℤ) (k : IsKept limits s) where
         let w = out_map named (versions_at t s.versions) n c in
         elim (b.whole w.0 w.1) [
           | inl none ↦ absurd (omega (arith, none.1))
-          | inr v ↦ subst (Contains (map named now)) (v.2 ∙ w.2) (in_map named now v.0 (into_order (has_lower ident) (filter is_current new.versions) v.0
-              (in_filter is_current new.versions v.0 v.1 (ap is_none (All-contains (λ (x : Version). x.until ≡ None) new.versions v.0 b.current v.1)))))
+          | inr v ↦ subst (Contains (map named now)) (v.2 ∙ w.2)
+              (in_map named now v.0 (into_order (has_lower ident) (filter is_current new.versions) v.0
+              (in_filter is_current new.versions v.0 v.1
+              (ap is_none (All-contains (λ (x : Version). x.until ≡ None) new.versions v.0 b.current v.1)))))
         ]
 
     objects_then : map named now ≡ map named (versions_at t s.versions)
     objects_then = one_rising (λ (n : Named). n.ident) (map named now) (map named (versions_at t s.versions))
         (named_rises now (rising_rises ident (filter is_current new.versions) current_differ))
-        (named_rises (versions_at t s.versions) (rising_rises ident (filter (holds_at t) s.versions) (held_differ t s.versions k.sound.good.in_turn)))
+        (named_rises (versions_at t s.versions)
+        (rising_rises ident (filter (holds_at t) s.versions) (held_differ t s.versions k.sound.good.in_turn)))
         to back
 
     areas_then : (h : List ℕ) → area_of h new.areas ≡ area_at t h s.areas
     areas_then h = elim (b.areas h) [ inl c ↦ absurd (omega (arith, c.0.1)) | inr e ↦ e ]
 
     left : IsMapThen s t new
-    left = record { objects = objects_then; areas = areas_then; again = exported_again limits s t new b k.sound.good objects_then areas_then }
+    left = record {
+      objects = objects_then;
+      areas = areas_then;
+      again = exported_again limits s t new b k.sound.good objects_then areas_then;
+    }
 
 -- of a state that has what texts keep
-pub kept_loads_back : (limits : Limits) (s : State) → IsKept limits s → (moment : ℤ) (texts : List (List ℕ)) → AreExported limits s moment texts
+pub kept_loads_back : (limits : Limits) (s : State) → IsKept limits s → (moment : ℤ) (texts : List (List ℕ))
+    → AreExported limits s moment texts
     → LoadsBack limits s moment texts
 kept_loads_back limits s k t texts e =
     let b = built_opening limits s t k in
@@ -129,7 +143,8 @@ loads_back limits before answers s run = kept_loads_back limits s (reached_kept 
 pub each_load : ((limits : Limits) (old : State) (texts : List (List ℕ)) (answers others : List Answer) (x y : State)
     → Run limits old texts answers x → Run limits old texts others y → (answers ≡ others) × (x ≡ y))
     → (limits : Limits) (before : List (List ℕ)) (answers : List Answer) (s : State) → Run limits opening before answers s
-    → (moment : ℤ) (texts : List (List ℕ)) → AreExported limits s moment texts → (told : List Answer) (new : State) → Run limits opening texts told new
+    → (moment : ℤ) (texts : List (List ℕ)) → AreExported limits s moment texts → (told : List Answer) (new : State)
+    → Run limits opening texts told new
     → (told ≡ replicate (length texts) Taken) × IsMapThen s moment new
 each_load one limits before answers s run t texts e told new again =
     let l = loads_back limits before answers s run t texts e in

@@ -109,7 +109,8 @@ one_found p q xs ys to back one = by (search_of p xs) (search_of q ys)
 -- members that differ are no more than those of a list that has them all
 pub no_more : {X : Type 0} (xs ys : List X) → AllPairs (λ x y. x ≢ y) xs → ((x : X) → Contains xs x → Contains ys x) → length xs ≤ length ys
 no_more [] ys p h = omega arith
-no_more {X} (x ∷ xs) ys p h = omega (arith, length_permutation ys (x ∷ left) moved, no_more xs left (pairs_tail (λ x y. x ≢ y) x xs p) others)
+no_more {X} (x ∷ xs) ys p h
+    = omega (arith, length_permutation ys (x ∷ left) moved, no_more xs left (pairs_tail (λ x y. x ≢ y) x xs p) others)
   where
     here : Contains ys x
     here = h x (contains_head x xs)

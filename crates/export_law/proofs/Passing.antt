@@ -34,7 +34,8 @@ use Rattle.export_law.specs.Kept.{IsAtHome}
 use Rattle.map_rules.proofs.Moments.{lt_true}
 
 -- ---- one mutation that is not refused
-pub none_refused : (vs : List Version) (m : Message) (before ms : List Mutation) → MutationsRule vs m before ms None → (x : Mutation) → Contains ms x
+pub none_refused : (vs : List Version) (m : Message) (before ms : List Mutation) → MutationsRule vs m before ms None → (x : Mutation)
+    → Contains ms x
     → (at : ℕ) × (mutation_refusal vs (header_of m) at x ≡ None)
 unfolding MutationsRule
 none_refused vs m before [] h x c = absurd (omega (arith, c.1))
@@ -60,27 +61,33 @@ item_begins m at item h =
     not_after (day_of m.moment) item.begin (when_none (int_lt (day_of m.moment) item.begin) (refusal.Days at) None in_time).0
 
 changed_item : (m : Message) (at : ℕ) (was : ℤ) (item : Item) (last current : Option Version)
-    → change_refusal (header_of m) at was (kind_refusal (header_of m) at item) last current ≡ None → item_refusal (header_of m) at item ≡ None
+    → change_refusal (header_of m) at was (kind_refusal (header_of m) at item) last current ≡ None
+    → item_refusal (header_of m) at item ≡ None
 changed_item m at was item last None h = cc
 changed_item m at was item last (Some v) h =
     let same_moment = int_le v.since was && int_le was v.since in
     let next = when (not same_moment) (refusal.Was at v.since) (kind_refusal (header_of m) at item v) in
     let owned = when_none (not (bytes_eq v.holder m.holder)) (refusal.Owner at v.holder) next h in
     let named = when_none (not same_moment) (refusal.Was at v.since) (kind_refusal (header_of m) at item v) owned.1 in
-    (when_none (not (bytes_eq (word_of item.kind) (word_of v.item.kind))) (refusal.Kind at v.item.kind) (item_refusal (header_of m) at item) named.1).1
+    (when_none (not (bytes_eq (word_of item.kind) (word_of v.item.kind))) (refusal.Kind at v.item.kind) (item_refusal (header_of m) at item)
+    named.1).1
 
-pub begins_in_time : (vs : List Version) (m : Message) (at : ℕ) (x : Mutation) (ident : List ℕ) (item : Item) → mutation_refusal vs (header_of m) at x ≡ None
+pub begins_in_time : (vs : List Version) (m : Message) (at : ℕ) (x : Mutation) (ident : List ℕ) (item : Item)
+    → mutation_refusal vs (header_of m) at x ≡ None
     → IsBeginning x ident item → item.begin ≤ℤ day_of m.moment
 begins_in_time vs m at (Add i own) ident item h b =
     let right = item_refusal (header_of m) at own in
-    let home = when_none (not (bytes_eq (holder_of i) m.holder)) (refusal.Prefix at) (when (is_some (last_of i vs)) (refusal.Known at) right) h in
+    let home = when_none (not (bytes_eq (holder_of i) m.holder)) (refusal.Prefix at)
+    (when (is_some (last_of i vs)) (refusal.Known at) right) h in
     let new = when_none (is_some (last_of i vs)) (refusal.Known at) right home.1 in
     subst (λ (y : Item). y.begin ≤ℤ day_of m.moment) b.1 (item_begins m at own new.1)
 begins_in_time vs m at (Change i was own) ident item h b =
-    subst (λ (y : Item). y.begin ≤ℤ day_of m.moment) b.1 (item_begins m at own (changed_item m at was own (last_of i vs) (current_of i vs) h))
+    subst (λ (y : Item). y.begin ≤ℤ day_of m.moment) b.1
+    (item_begins m at own (changed_item m at was own (last_of i vs) (current_of i vs) h))
 begins_in_time vs m at (End i was day) ident item h b = absurd b
 
-pub begins_at_home : (vs : List Version) (m : Message) (at : ℕ) (x : Mutation) (ident : List ℕ) (item : Item) → All IsAtHome vs → IsFine vs m.holder x
+pub begins_at_home : (vs : List Version) (m : Message) (at : ℕ) (x : Mutation) (ident : List ℕ) (item : Item) → All IsAtHome vs
+    → IsFine vs m.holder x
     → mutation_refusal vs (header_of m) at x ≡ None → IsBeginning x ident item → holder_of ident ≡ m.holder
 begins_at_home vs m at (Add i own) ident item home f h b =
     ap holder_of (sym b.0) ∙ (bytes_eq-Decides (holder_of i) m.holder).0 (not_false (bytes_eq (holder_of i) m.holder) (when_none _ _ _ h).0)
@@ -96,7 +103,8 @@ more_last h moment (l ∷ last) = elim (cases_Bool (bytes_eq l.holder h)) [
   | inr t ↦ rw t (let k = more_last h moment last in omega (arith, k))
 ]
 
-same_last : (h : List ℕ) (moment : ℤ) (last : List LastMessage) → is_none (moment_of h last) ≡ false → length (last_after h moment last) ≡ length last
+same_last : (h : List ℕ) (moment : ℤ) (last : List LastMessage) → is_none (moment_of h last) ≡ false
+    → length (last_after h moment last) ≡ length last
 same_last h moment [] e = cc
 same_last h moment (l ∷ last) e = elim (cases_Bool (bytes_eq l.holder h)) [
   | inl t ↦ rw t refl
@@ -110,7 +118,8 @@ pub room_left : (limits : Limits) (m : Message) (last : List LastMessage) → le
 room_left limits m last old e = by (is_none (moment_of m.holder last)) refl
     (when_none (is_none (moment_of m.holder last) && nat_le limits.holders (length last)) (refusal.Full Holders) None (sym e)).0
   where
-    by : (b : Bool) → is_none (moment_of m.holder last) ≡ b → (is_none (moment_of m.holder last) && nat_le limits.holders (length last)) ≡ false
+    by : (b : Bool) → is_none (moment_of m.holder last) ≡ b
+        → (is_none (moment_of m.holder last) && nat_le limits.holders (length last)) ≡ false
         → length (last_after m.holder m.moment last) ≤ limits.holders
     by true q h =
         let below = leb-false limits.holders (length last) (sym (ap (λ (t : Bool). t && nat_le limits.holders (length last)) q) ∙ h) in

@@ -13,7 +13,8 @@ use Rattle.version_history.specs.Moments.{in_order, placed}
 -- ---- the same members
 crossed : {A : Type 0} (xs ys zs : List A) → IsPermutation (xs ++ (ys ++ zs)) (ys ++ (xs ++ zs))
 crossed xs ys zs = subst (λ l. IsPermutation l (ys ++ (xs ++ zs))) (append_assoc xs ys zs)
-    (subst (IsPermutation ((xs ++ ys) ++ zs)) (append_assoc ys xs zs) (IsPermutation-append_left zs (xs ++ ys) (ys ++ xs) (IsPermutation-append_comm xs ys)))
+    (subst (IsPermutation ((xs ++ ys) ++ zs)) (append_assoc ys xs zs)
+    (IsPermutation-append_left zs (xs ++ ys) (ys ++ xs) (IsPermutation-append_comm xs ys)))
 
 module _ {X : Type 0} (lt : X → X → Bool) where
   placed_flat : {A : Type 0} (f : X → List A) (a : X) (l : List X) → IsPermutation (flat_map f (a ∷ l)) (flat_map f (placed lt a l))
@@ -31,7 +32,8 @@ module _ {X : Type 0} (lt : X → X → Bool) where
   pub in_order_flat : {A : Type 0} (f : X → List A) (l : List X) → IsPermutation (flat_map f l) (flat_map f (in_order lt l))
   unfolding in_order
   in_order_flat f [] = IsPermutation-refl []
-  in_order_flat f (a ∷ l) = IsPermutation-trans (flat_map f (a ∷ l)) (flat_map f (a ∷ in_order lt l)) (flat_map f (placed lt a (in_order lt l)))
+  in_order_flat f (a ∷ l)
+      = IsPermutation-trans (flat_map f (a ∷ l)) (flat_map f (a ∷ in_order lt l)) (flat_map f (placed lt a (in_order lt l)))
       (IsPermutation-append_right (f a) (flat_map f l) (flat_map f (in_order lt l)) (in_order_flat f l)) (placed_flat f a (in_order lt l))
 
   -- the item where it passes, else nothing
@@ -42,7 +44,8 @@ module _ {X : Type 0} (lt : X → X → Bool) where
   filter_flat p [] = refl
   filter_flat p (x ∷ l) = by (p x) (filter_flat p l)
     where
-      by : (t : Bool) → flat_map (passing p) l ≡ filter p l → cond t (x ∷ []) [] ++ flat_map (passing p) l ≡ cond t (x ∷ filter p l) (filter p l)
+      by : (t : Bool) → flat_map (passing p) l ≡ filter p l
+          → cond t (x ∷ []) [] ++ flat_map (passing p) l ≡ cond t (x ∷ filter p l) (filter p l)
       by true e = ap (λ (k : List X). x ∷ k) e
       by false e = e
 
@@ -71,13 +74,15 @@ module _ {X : Type 0} (lt : X → X → Bool) where
       (subst (IsPermutation (flat_map (λ x. x ∷ []) (a ∷ l))) (single_flat (placed lt a l)) (placed_flat (λ x. x ∷ []) a l))
 
   -- what holds of each two, whichever is first, holds of them in order
-  placed_pairs : (R : X → X → Type 0) → ((x y : X) → R x y → R y x) → (a : X) (l : List X) → All (R a) l → AllPairs R l → AllPairs R (placed lt a l)
+  placed_pairs : (R : X → X → Type 0) → ((x y : X) → R x y → R y x) → (a : X) (l : List X) → All (R a) l → AllPairs R l
+      → AllPairs R (placed lt a l)
   unfolding placed
   placed_pairs R turned a [] h p = AllPairs-cons R a [] h p
   placed_pairs R turned a (b ∷ r) h p = by (placed_pairs R turned a r (All-tail (R a) b r h) (pairs_tail R b r p)) (lt b a)
     where
       of_b : All (R b) (placed lt a r)
-      of_b = All-permutation (R b) (a ∷ r) (placed lt a r) (placed_same a r) (All-cons (R b) a r (turned a b (All-head (R a) b r h)) (pairs_head R b r p))
+      of_b = All-permutation (R b) (a ∷ r) (placed lt a r) (placed_same a r)
+          (All-cons (R b) a r (turned a b (All-head (R a) b r h)) (pairs_head R b r p))
 
       by : AllPairs R (placed lt a r) → (t : Bool) → AllPairs R (cond t (b ∷ placed lt a r) (a ∷ b ∷ r))
       by behind true = AllPairs-cons R b (placed lt a r) of_b behind

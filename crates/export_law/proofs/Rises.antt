@@ -42,7 +42,8 @@ module _ {X : Type 0} (lt : X → X → Bool) (o : IsStrictWeakOrder lt) where
           placed_after_b = All-permutation (λ y. lt y b ≡ false) (a ∷ r) (placed lt a r) (placed_same lt a r)
               (All-cons (λ y. lt y b ≡ false) a r (o.one_way b a h) after_b)
       by behind false h = AllPairs-cons (λ x y. lt y x ≡ false) a (b ∷ r)
-          (All-cons (λ y. lt y a ≡ false) b r h (All-weaker (λ y. lt y b ≡ false) (λ y. lt y a ≡ false) (λ y k. o.chain y b a k h) r after_b)) p
+          (All-cons (λ y. lt y a ≡ false) b r h
+          (All-weaker (λ y. lt y b ≡ false) (λ y. lt y a ≡ false) (λ y k. o.chain y b a k h) r after_b)) p
 
   pub in_order_climbs : (l : List X) → Climbs (in_order lt l)
   unfolding in_order
@@ -89,7 +90,8 @@ module _ {X : Type 0} (key : X → List ℕ) where
   never x h = both_ways (has_lower key x x) (order.one_way x x h) h
 
   -- lists that rise and have the same members are one
-  pub one_rising : (xs ys : List X) → Rises xs → Rises ys → ((x : X) → Contains xs x → Contains ys x) → ((y : X) → Contains ys y → Contains xs y) → xs ≡ ys
+  pub one_rising : (xs ys : List X) → Rises xs → Rises ys → ((x : X) → Contains xs x → Contains ys x)
+      → ((y : X) → Contains ys y → Contains xs y) → xs ≡ ys
   one_rising [] [] p q to back = refl
   one_rising [] (y ∷ ys) p q to back = absurd (omega (arith, (back y (contains_head y ys)).1))
   one_rising (x ∷ xs) [] p q to back = absurd (omega (arith, (to x (contains_head x xs)).1))
@@ -144,7 +146,8 @@ into_once [] x c = c
 into_once (a ∷ []) x c = c
 into_once (a ∷ b ∷ rest) x c = by (bytes_eq a b) refl (into_once (b ∷ rest) x)
   where
-    by : (t : Bool) → bytes_eq a b ≡ t → (Contains (b ∷ rest) x → Contains (once (b ∷ rest)) x) → Contains (cond t (once (b ∷ rest)) (a ∷ once (b ∷ rest))) x
+    by : (t : Bool) → bytes_eq a b ≡ t → (Contains (b ∷ rest) x → Contains (once (b ∷ rest)) x)
+        → Contains (cond t (once (b ∷ rest)) (a ∷ once (b ∷ rest))) x
     by true h again = elim (contains_cases a x (b ∷ rest) c) [
       | inl e ↦ again (subst (Contains (b ∷ rest)) (sym ((bytes_eq-Decides a b).0 h) ∙ e) (contains_head b rest))
       | inr d ↦ again d
@@ -176,7 +179,8 @@ once_differ (a ∷ b ∷ rest) p = by (bytes_eq a b) refl (once_differ (b ∷ re
       | inr d ↦ All-contains (Climb b) rest x (pairs_head Climb b rest later) d
     ]
 
-    by : (t : Bool) → bytes_eq a b ≡ t → AllPairs (λ x y. x ≢ y) (once (b ∷ rest)) → AllPairs (λ x y. x ≢ y) (cond t (once (b ∷ rest)) (a ∷ once (b ∷ rest)))
+    by : (t : Bool) → bytes_eq a b ≡ t → AllPairs (λ x y. x ≢ y) (once (b ∷ rest))
+        → AllPairs (λ x y. x ≢ y) (cond t (once (b ∷ rest)) (a ∷ once (b ∷ rest)))
     by true h q = q
     by false h q = AllPairs-cons (λ x y. x ≢ y) a (once (b ∷ rest)) (all_from (λ y. a ≢ y) (once (b ∷ rest)) (λ x c e.
         let apart : a ≢ b = λ k. both_ways (bytes_eq a b) h ((bytes_eq-Decides a b).1 k) in

@@ -35,7 +35,8 @@ tried_first e f s = first {T = IsPair e f} pair_total (e, f) (refl, s) (λ x t. 
 
 -- the lesser of what was found and of e and f
 pub tried_least : (a : Option Pair) (found r : Pair) (e f : Segment) → a ≡ Some found → AreCrossing e f
-    → ((r ≡ found) × (pair_cmp found (e, f) ≡ Less)) ⊎ ((r ≡ (e, f)) × (pair_cmp found (e, f) ≢ Less)) → Improves pair_cmp (IsPair e f) a (Some r)
+    → ((r ≡ found) × (pair_cmp found (e, f) ≡ Less)) ⊎ ((r ≡ (e, f)) × (pair_cmp found (e, f) ≢ Less))
+    → Improves pair_cmp (IsPair e f) a (Some r)
 tried_least a found r e f q s c = lesser {T = IsPair e f} pair_total a found r (e, f) q (refl, s) (λ x t. t.0) c
 
 -- ---- one edge with others
@@ -46,14 +47,19 @@ pair_of : (x : Pair) (e f : Segment) → x.0 ≡ e → x.1 ≡ f → x ≡ (e, f
 pair_of x e f p q = ap (λ (g : Segment). (g, x.1)) p ∙ ap (λ (g : Segment). (e, g)) q
 
 pub with_more : (e : Segment) (fs : List Segment) (i : ℕ) (f : Segment) (a b c : Option Pair) → i < length fs → get_or fs i f ≡ f
-    → Improves pair_cmp (IsPairWith e (take i fs)) a b → Improves pair_cmp (IsPair e f) b c → Improves pair_cmp (IsPairWith e (take (i + 1) fs)) a c
+    → Improves pair_cmp (IsPairWith e (take i fs)) a b → Improves pair_cmp (IsPair e f) b c
+    → Improves pair_cmp (IsPairWith e (take (i + 1) fs)) a c
 with_more e fs i f a b c h q g k = same a c there back (both pair_total a b c g k)
   where
     there : (x : Pair) → Either (IsPairWith e (take i fs)) (IsPair e f) x → IsPairWith e (take (i + 1) fs) x
     there x u = elim u [
       | inl s ↦ record { first = s.first; second = take_before fs i x.1 s.second; crossing = s.crossing }
       | inr s ↦ let p = ap (λ (y : Pair). y.0) s.0 in let r = ap (λ (y : Pair). y.1) s.0 in
-          record { first = p; second = subst (Contains (take (i + 1) fs)) (sym r) (take_new fs i f h q); crossing = subst (λ g. AreCrossing g x.1) (sym p) (subst (AreCrossing e) (sym r) s.1) }
+          record {
+            first = p;
+            second = subst (Contains (take (i + 1) fs)) (sym r) (take_new fs i f h q);
+            crossing = subst (λ g. AreCrossing g x.1) (sym p) (subst (AreCrossing e) (sym r) s.1);
+          }
     ]
 
     back : (x : Pair) → IsPairWith e (take (i + 1) fs) x → Either (IsPairWith e (take i fs)) (IsPair e f) x
@@ -62,7 +68,8 @@ with_more e fs i f a b c h q g k = same a c there back (both pair_total a b c g 
       | inr u ↦ inr (pair_of x e f s.first u, subst (λ g. AreCrossing g f) s.first (subst (AreCrossing x.0) u s.crossing))
     ]
 
-pub with_whole : (e : Segment) (fs : List Segment) (i : ℕ) (a b : Option Pair) → length fs ≤ i → Improves pair_cmp (IsPairWith e (take i fs)) a b
+pub with_whole : (e : Segment) (fs : List Segment) (i : ℕ) (a b : Option Pair) → length fs ≤ i
+    → Improves pair_cmp (IsPairWith e (take i fs)) a b
     → Improves pair_cmp (IsPairWith e fs) a b
 with_whole e fs i a b h g = same a b
     (λ x s. record { first = s.first; second = take_has fs i x.1 s.second; crossing = s.crossing })
@@ -71,20 +78,27 @@ with_whole e fs i a b h g = same a b
 -- edges whose box lies apart
 pub with_apart : (e : Segment) (fs : List Segment) (box near : Box) (a : Option Pair) → HoldsEdges box fs → IsLeastBox (e.a ∷ e.b ∷ []) near
     → (HaveCommonPoint near box → ⊥) → Improves pair_cmp (IsPairWith e fs) a a
-with_apart e fs box near a h l n = none pair_total a (λ x t. let c = t.crossing.0.1.common in n (boxes_meet near box e x.1 t.crossing.0.0 (holds_edge near e l) (subst (HoldsEdge box) t.second.2 (h t.second.0 x.1 t.second.1)) (subst (λ g. on t.crossing.0.0 g ≡ true) t.first c.0) c.1))
+with_apart e fs box near a h l n = none pair_total a (λ x t. let c = t.crossing.0.1.common in n (boxes_meet near box e x.1 t.crossing.0.0
+    (holds_edge near e l) (subst (HoldsEdge box) t.second.2 (h t.second.0 x.1 t.second.1))
+    (subst (λ g. on t.crossing.0.0 g ≡ true) t.first c.0) c.1))
 
 -- ---- all edges with those of a stretch
 pub of_begin : (es fs : List Segment) (a : Option Pair) → Improves pair_cmp (IsPairOf (take 0 es) fs) a a
 of_begin es fs a = none pair_total a (λ x t. omega (arith, t.first.1, length-take 0 es))
 
 pub of_more : (es fs : List Segment) (i : ℕ) (e : Segment) (a b c : Option Pair) → i < length es → get_or es i e ≡ e
-    → Improves pair_cmp (IsPairOf (take i es) fs) a b → Improves pair_cmp (IsPairWith e fs) b c → Improves pair_cmp (IsPairOf (take (i + 1) es) fs) a c
+    → Improves pair_cmp (IsPairOf (take i es) fs) a b → Improves pair_cmp (IsPairWith e fs) b c
+    → Improves pair_cmp (IsPairOf (take (i + 1) es) fs) a c
 of_more es fs i e a b c h q g k = same a c there back (both pair_total a b c g k)
   where
     there : (x : Pair) → Either (IsPairOf (take i es) fs) (IsPairWith e fs) x → IsPairOf (take (i + 1) es) fs x
     there x u = elim u [
       | inl s ↦ record { first = take_before es i x.0 s.first; second = s.second; crossing = s.crossing }
-      | inr s ↦ record { first = subst (Contains (take (i + 1) es)) (sym s.first) (take_new es i e h q); second = s.second; crossing = s.crossing }
+      | inr s ↦ record {
+        first = subst (Contains (take (i + 1) es)) (sym s.first) (take_new es i e h q);
+        second = s.second;
+        crossing = s.crossing;
+      }
     ]
 
     back : (x : Pair) → IsPairOf (take (i + 1) es) fs x → Either (IsPairOf (take i es) fs) (IsPairWith e fs) x
@@ -158,7 +172,8 @@ near_in box es near i f h q n = record {
     only : (f e : Segment) → Contains (f ∷ []) e → f ≡ e
     only f e d = elim (contains_cases f e [] d) [ inl k ↦ k | inr k ↦ absurd (omega (arith, k.1)) ]
 
-pub near_past : (box own : Box) (es near : List Segment) (i : ℕ) (f : Segment) → i < length es → get_or es i f ≡ f → IsLeastBox (f.a ∷ f.b ∷ []) own
+pub near_past : (box own : Box) (es near : List Segment) (i : ℕ) (f : Segment) → i < length es → get_or es i f ≡ f
+    → IsLeastBox (f.a ∷ f.b ∷ []) own
     → (HaveCommonPoint own box → ⊥) → AreNearBefore box es i near → AreNearBefore box es (i + 1) near
 near_past box own es near i f h q b m n = record {
   some = n.some;
@@ -176,7 +191,12 @@ pub near_pairs : (box : Box) (es near block : List Segment) (a b : Option Pair) 
     → Improves pair_cmp (IsPairOf near block) a b → Improves pair_cmp (IsPairOf es block) a b
 near_pairs box es near block a b h n g = same a b
     (λ x s. record { first = n.some x.0 s.first; second = s.second; crossing = s.crossing })
-    (λ x s. let k = s.crossing.0 in record { first = n.all x.0 k.0 s.first k.1.common.0 (edge_in_box box x.1 k.0 (held x.1 s.second) k.1.common.1); second = s.second; crossing = s.crossing }) g
+    (λ x s. let k = s.crossing.0 in record {
+      first
+          = n.all x.0 k.0 s.first k.1.common.0 (edge_in_box box x.1 k.0 (held x.1 s.second) k.1.common.1);
+      second = s.second;
+      crossing = s.crossing;
+    }) g
   where
     held : (e : Segment) → Contains block e → HoldsEdge box e
     held e c = subst (HoldsEdge box) c.2 (h c.0 e c.1)

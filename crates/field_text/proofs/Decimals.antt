@@ -24,7 +24,8 @@ pub record IsPadded (n : ℕ) (digits : List ℕ) : Type 0 where
 first_digit : (n width : ℕ) → 10 ≤ n → IsWidth (n / 10) width → 10 ^ width ≤ n
 first_digit n width h (a, b, inl e) = rw e (omega (arith, h))
 first_digit n zero h (a, b, inr e) = omega arith
-first_digit n (suc w) h (a, b, inr e) = let power = pow-succ' 10 w in let least : 10 ^ w ≤ n / 10 = simp unary_clauses at e in omega (arith, power, least)
+first_digit n (suc w) h (a, b, inr e) = let power = pow-succ' 10 w in let least : 10 ^ w ≤ n / 10 = simp unary_clauses at e in omega
+    (arith, power, least)
 
 one_digit : (n : ℕ) → n < 10 → IsPadded n ((48 + n) ∷ [])
 one_digit n h =

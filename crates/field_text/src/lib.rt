@@ -13,8 +13,6 @@ mod leading;
 mod moment;
 mod numbers;
 mod printed;
-#[cfg(test)]
-mod tests;
 
 pub use coordinate::{Axis, print_mm, read_mm};
 pub use day::{Day, print_day, read_day};

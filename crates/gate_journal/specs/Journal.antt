@@ -28,4 +28,5 @@ Opens bytes (payload ∷ payloads) = (rest : List ℕ) × (length payload < 2 ^ 
 -- The file stands for these payloads. One of at most 9 bytes stands for none, whatever its bytes are; a longer one begins
 -- with the mark, and then come the gates.
 abbrev pub StandsFor : List ℕ → List (List ℕ) → Type 0
-StandsFor file payloads = ((length file ≤ 9) × (payloads ≡ [])) ⊎ ((9 < length file) × (gates : List ℕ) × (file ≡ mark ++ gates) × Opens gates payloads)
+StandsFor file payloads
+    = ((length file ≤ 9) × (payloads ≡ [])) ⊎ ((9 < length file) × (gates : List ℕ) × (file ≡ mark ++ gates) × Opens gates payloads)

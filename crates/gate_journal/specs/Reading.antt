@@ -43,7 +43,8 @@ Hands file journal (Some payload) = HasRecordAt file journal.gate payload
 -- the journal goes on after the record, within the file, or stays at its end
 abbrev pub Moves : (old new : Begun) → Option (List ℕ) → Type 0
 Moves old new None = new ≡ record old { at_end = Bool.true }
-Moves old new (Some payload) = (new ≡ record old { gate = old.gate + 9 + length payload; last_gate = old.gate; at_end = Bool.false }) × (new.gate < new.len)
+Moves old new (Some payload)
+    = (new ≡ record old { gate = old.gate + 9 + length payload; last_gate = old.gate; at_end = Bool.false }) × (new.gate < new.len)
 
 -- in the file come the mark, the records of these payloads, all of them open, and then the gate at this offset
 pub record IsBehind (file : List ℕ) (gate : ℕ) (payloads : List (List ℕ)) : Type 0 where
@@ -58,7 +59,8 @@ pub record IsBehind (file : List ℕ) (gate : ℕ) (payloads : List (List ℕ)) 
 -- the journal was begun on this file, and these payloads come before its next gate
 pub record IsRead (journal : Begun) (file : List ℕ) (payloads : List (List ℕ)) : Type 0 where
   pub len : journal.len ≡ length file
-  pub place : ((journal.empty ≡ Bool.true) × (length file ≤ 9) × (payloads ≡ [])) ⊎ ((journal.empty ≡ Bool.false) × IsBehind file journal.gate payloads)
+  pub place : ((journal.empty ≡ Bool.true) × (length file ≤ 9) × (payloads ≡ []))
+      ⊎ ((journal.empty ≡ Bool.false) × IsBehind file journal.gate payloads)
 
 -- the file has these payloads, and its first closed gate is at this offset
 pub record EndsAt (gate : ℕ) (file : List ℕ) (payloads : List (List ℕ)) : Type 0 where
@@ -72,4 +74,5 @@ pub record EndsAt (gate : ℕ) (file : List ℕ) (payloads : List (List ℕ)) : 
 -- what is known of the payloads of a file, where these were read before and this was the answer
 abbrev pub ReadsOn : Begun → List ℕ → List (List ℕ) → Option (List ℕ) → Type 0
 ReadsOn new file payloads (Some payload) = IsRead new file (payloads ++ payload ∷ [])
-ReadsOn new file payloads None = IsRead new file payloads × StandsFor file payloads × (new.empty ≡ Bool.false → EndsAt new.gate file payloads)
+ReadsOn new file payloads None
+    = IsRead new file payloads × StandsFor file payloads × (new.empty ≡ Bool.false → EndsAt new.gate file payloads)

@@ -21,7 +21,8 @@ use Rattle.imgeo_types.specs.ItemRule.{IsRight, table_of, is_pand_number, unless
 
 -- what the law of the tables says of every list of texts
 abbrev pub Stands : Type 0
-Stands = (texts : List (List ℕ)) (text : List ℕ) → MatchOption (place_of texts text) (¬ Contains texts text) (λ k. slice_get texts k ≡ Some text)
+Stands = (texts : List (List ℕ)) (text : List ℕ)
+    → MatchOption (place_of texts text) (¬ Contains texts text) (λ k. slice_get texts k ≡ Some text)
 
 -- both tests hold where their conjunction does
 each : (x y : Bool) → (x && y) ≡ true → (x ≡ true) × (y ≡ true)
@@ -72,12 +73,14 @@ tested_highest (pos n) h = let within : n ≤ 99 = omega (arith, ints) in grind 
 tested_highest (negsuc n) h = refl
 
 -- a text that has a place is listed
-listed_at : (texts : List (List ℕ)) (text : List ℕ) (place : Option ℕ) → MatchOption place (¬ Contains texts text) (λ k. slice_get texts k ≡ Some text) → is_some place ≡ true → Contains texts text
+listed_at : (texts : List (List ℕ)) (text : List ℕ) (place : Option ℕ)
+    → MatchOption place (¬ Contains texts text) (λ k. slice_get texts k ≡ Some text) → is_some place ≡ true → Contains texts text
 listed_at texts text None nowhere h = cc
 listed_at texts text (Some k) at h = (k, slice_get_within texts k text at, get_or_from_slice_get texts k text text at)
 
 -- a text that is listed has a place
-place_from : (texts : List (List ℕ)) (text : List ℕ) (place : Option ℕ) → MatchOption place (¬ Contains texts text) (λ k. slice_get texts k ≡ Some text) → Contains texts text → is_some place ≡ true
+place_from : (texts : List (List ℕ)) (text : List ℕ) (place : Option ℕ)
+    → MatchOption place (¬ Contains texts text) (λ k. slice_get texts k ≡ Some text) → Contains texts text → is_some place ≡ true
 place_from texts text None nowhere listed = absurd (nowhere listed)
 place_from texts text (Some k) at listed = refl
 
@@ -90,15 +93,22 @@ tested_digit : (b : ℕ) → IsAsciiDigit b → is_ascii_digit b ≡ true
 tested_digit b h = grind (arith, nat_tests)
 
 -- a value without a fault suits
-suits : Stands → (attr : Attr) (table : Option Table) (value : Option (List ℕ)) → attr_fault attr table value ≡ None → MatchOption table (value ≡ None) (λ table. (code : List ℕ) × (value ≡ Some code) × Contains (values_of table) code)
+suits : Stands → (attr : Attr) (table : Option Table) (value : Option (List ℕ)) → attr_fault attr table value ≡ None
+    → MatchOption table (value ≡ None) (λ table. (code : List ℕ) × (value ≡ Some code) × Contains (values_of table) code)
 suits stands attr None None h = refl
 suits stands attr None (Some code) h = cc
 suits stands attr (Some table) None h = cc
-suits stands attr (Some table) (Some code) h =
-    (code, refl, listed_at (values_of table) code (place_of (values_of table) code) (stands (values_of table) code) (no_fault (is_some (place_of (values_of table) code)) (Code attr) h))
+suits stands attr (Some table) (Some code) h = (
+  code,
+  refl,
+  listed_at (values_of table) code (place_of (values_of table) code) (stands (values_of table) code)
+      (no_fault (is_some (place_of (values_of table) code)) (Code attr) h),
+)
 
 -- a value that suits has no fault
-suited : Stands → (attr : Attr) (table : Option Table) (value : Option (List ℕ)) → MatchOption table (value ≡ None) (λ table. (code : List ℕ) × (value ≡ Some code) × Contains (values_of table) code) → attr_fault attr table value ≡ None
+suited : Stands → (attr : Attr) (table : Option Table) (value : Option (List ℕ))
+    → MatchOption table (value ≡ None) (λ table. (code : List ℕ) × (value ≡ Some code) × Contains (values_of table) code)
+    → attr_fault attr table value ≡ None
 suited stands attr None None h = refl
 suited stands attr None (Some code) h = cc
 suited stands attr (Some table) value h =
@@ -108,13 +118,16 @@ suited stands attr (Some table) value h =
 -- what the test of the number of a building says
 digits : (number : List ℕ) → is_pand_number number ≡ true → (length number ≡ 16) × All IsAsciiDigit number
 digits number h =
-    let parts = each (length number == 16) (list_all is_ascii_digit number) h in
-    ((Decides-eqb (length number) 16).0 parts.0, λ k d within. digit (get_or number k d) (AllPass-from_list_all is_ascii_digit number parts.1 k d within))
+    let parts = each (length number == 16) (list_all is_ascii_digit number) h in (
+      (Decides-eqb (length number) 16).0 parts.0,
+      λ k d within. digit (get_or number k d) (AllPass-from_list_all is_ascii_digit number parts.1 k d within),
+    )
 
 -- 16 digits pass
 of_digits : (number : List ℕ) → length number ≡ 16 → All IsAsciiDigit number → is_pand_number number ≡ true
 of_digits number len all =
-    both (length number == 16) (list_all is_ascii_digit number) ((Decides-eqb (length number) 16).1 len) (list_all-from_AllPass is_ascii_digit number (λ k d within. tested_digit (get_or number k d) (all k d within)))
+    both (length number == 16) (list_all is_ascii_digit number) ((Decides-eqb (length number) 16).1 len)
+    (list_all-from_AllPass is_ascii_digit number (λ k d within. tested_digit (get_or number k d) (all k d within)))
 
 -- a number of a building is of a building, and of 16 digits
 Numbers : Kind → Option (List ℕ) → Type 0

@@ -71,7 +71,8 @@ Tells result fault = MatchResult result (λ _. fault ≡ None) (λ found. fault 
 
 -- where the kind has the attribute, the value is a code that its table lists, and else there is no value
 abbrev pub Suits : Kind → Attr → Option (List ℕ) → Type 0
-Suits kind attr value = MatchOption (table_of kind attr) (value ≡ None) (λ table. (code : List ℕ) × (value ≡ Some code) × Contains (values_of table) code)
+Suits kind attr value
+    = MatchOption (table_of kind attr) (value ≡ None) (λ table. (code : List ℕ) × (value ≡ Some code) × Contains (values_of table) code)
 
 -- an item that is right by the catalogue
 pub record IsRight (item : Item) : Type 0 where

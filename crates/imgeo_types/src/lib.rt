@@ -14,8 +14,6 @@ mod ident;
 mod item;
 mod kind;
 pub mod laws;
-#[cfg(test)]
-mod tests;
 
 pub use check::check_item;
 pub use code::Code;

@@ -23,7 +23,8 @@ same x y = eq_by_cmp (slice_cmp nat_cmp) x y
 same_is : (x y : List ℕ) → same x y ≡ true → x ≡ y
 same_is x y h = slice_cmp-IsAntisymmetric nat_cmp-IsAntisymmetric x y ((Equal-is (slice_cmp nat_cmp x y)).0 h)
 
-pub named_so : (q : List ℕ) (ks : List (List ℕ)) → (list_any (same q) ks ≡ true → Contains ks q) × (Contains ks q → list_any (same q) ks ≡ true)
+pub named_so : (q : List ℕ) (ks : List (List ℕ))
+    → (list_any (same q) ks ≡ true → Contains ks q) × (Contains ks q → list_any (same q) ks ≡ true)
 named_so q ks = (Contains-from_any same_is q ks, list_any-from_Contains (eq_by_cmp_equiv nat_list_cmp_total) q ks)
 
 joined : (b a : Bool) → cond b true a ≡ (a || (b || false))
@@ -32,18 +33,26 @@ joined true false = refl
 joined false true = refl
 joined false false = refl
 
-pub set_more : (idents : List (List ℕ)) (i : ℕ) (x q : List ℕ) (old new : Bool) → i < length idents → get_or idents i x ≡ x → old ≡ list_any (same q) (take i idents) → new ≡ cond (same x q) true old → new ≡ list_any (same q) (take (i + 1) idents)
-set_more idents i x q old new l e o n = n ∙ ap (λ (b : Bool). cond b true old) ((eq_by_cmp_equiv nat_list_cmp_total).symm x q) ∙ ap (λ (a : Bool). cond (same q x) true a) o ∙ joined (same q x) (list_any (same q) (take i idents))
-    ∙ sym (ap (list_any (same q)) (take_more idents i x l ∙ ap (λ (y : List ℕ). take i idents ++ y ∷ []) e) ∙ list_any-append (same q) (take i idents) (x ∷ []))
+pub set_more : (idents : List (List ℕ)) (i : ℕ) (x q : List ℕ) (old new : Bool) → i < length idents → get_or idents i x ≡ x
+    → old ≡ list_any (same q) (take i idents) → new ≡ cond (same x q) true old → new ≡ list_any (same q) (take (i + 1) idents)
+set_more idents i x q old new l e o n = n ∙ ap (λ (b : Bool). cond b true old)
+    ((eq_by_cmp_equiv nat_list_cmp_total).symm x q) ∙ ap (λ (a : Bool). cond (same q x) true a) o ∙ joined (same q x)
+    (list_any (same q) (take i idents))
+    ∙ sym (ap (list_any (same q)) (take_more idents i x l ∙ ap (λ (y : List ℕ). take i idents ++ y ∷ []) e) ∙ list_any-append (same q)
+    (take i idents) (x ∷ []))
 
-pub set_whole : (idents keys : List (List ℕ)) → ((q : List ℕ) → list_any (same q) keys ≡ list_any (same q) idents) → (q : List ℕ) → Contains keys q ↔ Contains idents q
-set_whole idents keys h q = (λ c. (named_so q idents).0 (sym (h q) ∙ (named_so q keys).1 c), λ c. (named_so q keys).0 (h q ∙ (named_so q idents).1 c))
+pub set_whole : (idents keys : List (List ℕ)) → ((q : List ℕ) → list_any (same q) keys ≡ list_any (same q) idents) → (q : List ℕ)
+    → Contains keys q ↔ Contains idents q
+set_whole idents keys h q
+    = (λ c. (named_so q idents).0 (sym (h q) ∙ (named_so q keys).1 c), λ c. (named_so q keys).0 (h q ∙ (named_so q idents).1 c))
 
 -- ---- who leaves, by the set or by the list
-stays_so : (mates : List LevelItem) (index : map.FinMap nat_cmp Box) (one other : List (List ℕ)) (mate : LevelItem) → ((q : List ℕ) → Contains other q → Contains one q) → Stays mates index one mate → Stays mates index other mate
+stays_so : (mates : List LevelItem) (index : map.FinMap nat_cmp Box) (one other : List (List ℕ)) (mate : LevelItem)
+    → ((q : List ℕ) → Contains other q → Contains one q) → Stays mates index one mate → Stays mates index other mate
 stays_so mates index one other mate h s = record { slot = s.slot; box = s.box; is = s.is; at = s.at; kept = λ c. s.kept (h mate.ident c) }
 
-breaks_so : (items mates : List LevelItem) (index : map.FinMap nat_cmp Box) (one other : List (List ℕ)) (pair : Pair) → ((q : List ℕ) → Contains other q → Contains one q) → BreaksNew items mates index one pair → BreaksNew items mates index other pair
+breaks_so : (items mates : List LevelItem) (index : map.FinMap nat_cmp Box) (one other : List (List ℕ)) (pair : Pair)
+    → ((q : List ℕ) → Contains other q → Contains one q) → BreaksNew items mates index one pair → BreaksNew items mates index other pair
 breaks_so items mates index one other pair h b = record {
   case = elim b.case [
     | inl k ↦ inl k
@@ -51,7 +60,13 @@ breaks_so items mates index one other pair h b = record {
   ];
 }
 
-pub by_list : (items mates : List LevelItem) (index : map.FinMap nat_cmp Box) (keys idents : List (List ℕ)) (found : Option Pair) → ((q : List ℕ) → Contains keys q ↔ Contains idents q) →
-    MatchOption found ((pair : Pair) → BreaksNew items mates index keys pair → ⊥) (IsLeast pair_cmp (BreaksNew items mates index keys)) → MatchOption found ((pair : Pair) → BreaksNew items mates index idents pair → ⊥) (IsLeast pair_cmp (BreaksNew items mates index idents))
+pub by_list : (items mates : List LevelItem) (index : map.FinMap nat_cmp Box) (keys idents : List (List ℕ)) (found : Option Pair)
+    → ((q : List ℕ) → Contains keys q ↔ Contains idents q) →
+    MatchOption found ((pair : Pair) → BreaksNew items mates index keys pair → ⊥) (IsLeast pair_cmp (BreaksNew items mates index keys))
+    → MatchOption found ((pair : Pair) → BreaksNew items mates index idents pair → ⊥)
+    (IsLeast pair_cmp (BreaksNew items mates index idents))
 by_list items mates index keys idents None h n = λ pair b. n pair (breaks_so items mates index idents keys pair (λ q. (h q).0) b)
-by_list items mates index keys idents (Some p) h l = record { has = breaks_so items mates index keys idents p (λ q. (h q).1) l.has; least = λ b u. l.least b (breaks_so items mates index idents keys b (λ q. (h q).0) u) }
+by_list items mates index keys idents (Some p) h l = record {
+  has = breaks_so items mates index keys idents p (λ q. (h q).1) l.has;
+  least = λ b u. l.least b (breaks_so items mates index idents keys b (λ q. (h q).0) u);
+}

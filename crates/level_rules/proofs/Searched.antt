@@ -22,13 +22,14 @@ use Rattle.level_rules.proofs.Spoken.{first_levelled, second_levelled}
 
 -- ---- which pairs, on the way
 -- the object and a mate that does not leave, at one of the first slots
-pub record PairsNear (item : LevelItem) (mates : List LevelItem) (slots : List ℕ) (leaving : List (List ℕ)) (to : ℕ) (pair : Pair) : Type 0 where
-  pub place : ℕ
-  pub before : place < to
-  pub mate : LevelItem
-  pub at : (d : LevelItem) → mate ≡ get_or mates (slice_index slots place) d
-  pub kept : Contains leaving mate.ident → ⊥
-  pub is : IsPairOf item mate pair
+pub record PairsNear (item : LevelItem) (mates : List LevelItem) (slots : List ℕ) (leaving : List (List ℕ)) (to : ℕ) (pair : Pair) : Type 0
+  where
+    pub place : ℕ
+    pub before : place < to
+    pub mate : LevelItem
+    pub at : (d : LevelItem) → mate ≡ get_or mates (slice_index slots place) d
+    pub kept : Contains leaving mate.ident → ⊥
+    pub is : IsPairOf item mate pair
 
 -- the object at i, with one before it or with a mate that stays
 abbrev pub PairsAt : List LevelItem → List LevelItem → map.FinMap nat_cmp Box → List (List ℕ) → ℕ → Pair → Type 0
@@ -36,7 +37,8 @@ PairsAt items mates index leaving i pair = PairsEarlier items i pair ⊎ ((item 
     (get_or items i item ≡ item) × PairsMate item mates index leaving pair)
 
 -- one of the first objects, with one before it or with a mate that stays
-pub record PairsBefore (items mates : List LevelItem) (index : map.FinMap nat_cmp Box) (leaving : List (List ℕ)) (to : ℕ) (pair : Pair) : Type 0 where
+pub record PairsBefore (items mates : List LevelItem) (index : map.FinMap nat_cmp Box) (leaving : List (List ℕ)) (to : ℕ)
+    (pair : Pair) : Type 0 where
   pub one : ℕ
   pub before : one < to
   pub is : PairsAt items mates index leaving one pair
@@ -50,9 +52,11 @@ pub near_begin : (item : LevelItem) (mates : List LevelItem) (slots : List ℕ) 
     → Improves pair_cmp (PairsNear item mates slots leaving 0) a a
 near_begin item mates slots leaving a = none pair_total a (λ p t. omega (arith, t.before))
 
-pub near_more : (item : LevelItem) (mates : List LevelItem) (slots : List ℕ) (leaving : List (List ℕ)) (k slot : ℕ) (mate : LevelItem) (a b c : Option Pair)
+pub near_more : (item : LevelItem) (mates : List LevelItem) (slots : List ℕ) (leaving : List (List ℕ)) (k slot : ℕ) (mate : LevelItem)
+    (a b c : Option Pair)
     → slice_index slots k ≡ slot → slot < length mates → get_or mates slot mate ≡ mate →
-    Improves pair_cmp (PairsNear item mates slots leaving k) a b → Improves pair_cmp (λ p. (Contains leaving mate.ident → ⊥) × IsPairOf item mate p) b c
+    Improves pair_cmp (PairsNear item mates slots leaving k) a b
+    → Improves pair_cmp (λ p. (Contains leaving mate.ident → ⊥) × IsPairOf item mate p) b c
     → Improves pair_cmp (PairsNear item mates slots leaving (k + 1)) a c
 near_more item mates slots leaving k slot mate a b c q l m f g = same a c there back (both pair_total a b c f g)
   where
@@ -83,8 +87,10 @@ share_boxes item mate near box b h k = let c = boxes_common near box item.shape 
 at_place : (n : ℕ) (ns : List ℕ) → n < length ns → get_or ns n (slice_index ns n) ≡ slice_index ns n
 at_place n ns l = get_or_default ns n (slice_index ns n) 0 l
 
-pub near_whole : (item : LevelItem) (mates : List LevelItem) (index : map.FinMap nat_cmp Box) (near : Box) (slots : List ℕ) (leaving : List (List ℕ))
-    (k : ℕ) (a b : Option Pair) → IsIndexOf mates index → IsLeastBox (corners_of item.shape) near → AreMeeting index near slots → length slots ≤ k
+pub near_whole : (item : LevelItem) (mates : List LevelItem) (index : map.FinMap nat_cmp Box) (near : Box) (slots : List ℕ)
+    (leaving : List (List ℕ))
+    (k : ℕ) (a b : Option Pair) → IsIndexOf mates index → IsLeastBox (corners_of item.shape) near → AreMeeting index near slots
+    → length slots ≤ k
     → k ≤ length slots →
     Improves pair_cmp (PairsNear item mates slots leaving k) a b → Improves pair_cmp (PairsMate item mates index leaving) a b
 near_whole item mates index near slots leaving k a b x h w le ge f = same a b there back f
@@ -122,7 +128,8 @@ near_whole item mates index near slots leaving k a b x h w le ge f = same a b th
 -- a slot that is near is a place of a mate
 pub near_inside : (mates : List LevelItem) (index : map.FinMap nat_cmp Box) (near : Box) (slots : List ℕ) (k : ℕ) → IsIndexOf mates index
     → AreMeeting index near slots → k < length slots → slice_index slots k < length mates
-near_inside mates index near slots k x w l = let m = (w.just (slice_index slots k)).0 (k, l, at_place k slots l) in (x (slice_index slots k) m.own m.is).0
+near_inside mates index near slots k x w l = let m = (w.just (slice_index slots k)).0 (k, l, at_place k slots l)
+    in (x (slice_index slots k) m.own m.is).0
 
 -- ---- those before an object, as mates of which none leaves
 turned : (x y : LevelItem) (p : Pair) → IsPairOf x y p → IsPairOf y x p
@@ -132,7 +139,8 @@ some_of : {X : Type 0} (r : Option X) → IsSome r → (x : X) × (r ≡ Some x)
 some_of None h = absurd (both_ways false refl h)
 some_of (Some x) h = (x, refl)
 
-pub earlier : (items : List LevelItem) (index : map.FinMap nat_cmp Box) (leaving : List (List ℕ)) (i : ℕ) (x : LevelItem) (a b : Option Pair)
+pub earlier : (items : List LevelItem) (index : map.FinMap nat_cmp Box) (leaving : List (List ℕ)) (i : ℕ) (x : LevelItem)
+    (a b : Option Pair)
     → i < length items → get_or items i x ≡ x → HasBoxes items index i → leaving ≡ []
     → Improves pair_cmp (PairsMate x items index leaving) a b → Improves pair_cmp (PairsEarlier items i) a b
 earlier items index leaving i x a b l q h e f = same a b there back f
@@ -166,19 +174,22 @@ earlier items index leaving i x a b l q h e f = same a b there back f
     }
 
 -- ---- an object
-pub unlevelled : (items mates : List LevelItem) (index : map.FinMap nat_cmp Box) (leaving : List (List ℕ)) (i : ℕ) (x : LevelItem) (a : Option Pair)
+pub unlevelled : (items mates : List LevelItem) (index : map.FinMap nat_cmp Box) (leaving : List (List ℕ)) (i : ℕ) (x : LevelItem)
+    (a : Option Pair)
     → i < length items → get_or items i x ≡ x → (IsLevelled x → ⊥) → Improves pair_cmp (PairsAt items mates index leaving i) a a
 unlevelled items mates index leaving i x a l q n = none pair_total a (λ p t. elim t [
   | inl s ↦ n (subst IsLevelled q (second_levelled (get_or items s.other x) (get_or items i x) (s.is x).breaks))
   | inr s ↦ n (subst IsLevelled (sym s.1 ∙ get_or_default items i s.0 x l ∙ q) (first_levelled s.0 s.2.mate s.2.is.breaks))
 ])
 
-pub levelled : (items mates : List LevelItem) (index : map.FinMap nat_cmp Box) (leaving : List (List ℕ)) (i : ℕ) (x : LevelItem) (a b c : Option Pair)
+pub levelled : (items mates : List LevelItem) (index : map.FinMap nat_cmp Box) (leaving : List (List ℕ)) (i : ℕ) (x : LevelItem)
+    (a b c : Option Pair)
     → i < length items → get_or items i x ≡ x → Improves pair_cmp (PairsEarlier items i) a b
     → Improves pair_cmp (PairsMate x mates index leaving) b c → Improves pair_cmp (PairsAt items mates index leaving i) a c
 levelled items mates index leaving i x a b c l q f g = same a c
     (λ p t. elim t [ inl s ↦ inl s | inr s ↦ inr (x, q, s) ])
-    (λ p t. elim t [ inl s ↦ inl s | inr s ↦ inr (subst (λ u. PairsMate u mates index leaving p) (sym s.1 ∙ get_or_default items i s.0 x l ∙ q) s.2) ])
+    (λ p t. elim t
+    [ inl s ↦ inl s | inr s ↦ inr (subst (λ u. PairsMate u mates index leaving p) (sym s.1 ∙ get_or_default items i s.0 x l ∙ q) s.2) ])
     (both pair_total a b c f g)
 
 -- ---- all objects
@@ -205,7 +216,8 @@ items_more items mates index leaving i a b c f g = same a c there back (both pai
       | inr h ↦ let e : s.one ≡ i = omega (arith, h, s.before) in inr (subst (λ n. PairsAt items mates index leaving n p) e s.is)
     ]
 
-pub items_whole : (items mates : List LevelItem) (index : map.FinMap nat_cmp Box) (leaving : List (List ℕ)) (i : ℕ) (b : Option Pair) → length items ≤ i
+pub items_whole : (items mates : List LevelItem) (index : map.FinMap nat_cmp Box) (leaving : List (List ℕ)) (i : ℕ) (b : Option Pair)
+    → length items ≤ i
     → i ≤ length items → Improves pair_cmp (PairsBefore items mates index leaving i) None b →
     MatchOption b ((pair : Pair) → BreaksNew items mates index leaving pair → ⊥) (IsLeast pair_cmp (BreaksNew items mates index leaving))
 items_whole items mates index leaving i b h k f =

@@ -26,12 +26,14 @@ none_some z = cc
 
 pub boxes_begin : (objects : List LevelItem) (index : fin.FinMap nat_cmp Box) → index ≡ fin.empty → HasBoxes objects index 0
 boxes_begin objects index q = record {
-  boxes = λ slot box g. let z : None ≡ Some box = sym (get-empty nat_cmp slot) ∙ sym (ap (λ m. fin.get m slot) q) ∙ g in absurd (none_some z);
+  boxes = λ slot box g. let z : None ≡ Some box = sym (get-empty nat_cmp slot) ∙ sym (ap (λ m. fin.get m slot) q) ∙ g in absurd
+      (none_some z);
   whole = λ slot l h. absurd (omega (arith, l));
 }
 
 -- an object that the rule does not speak of has no box
-pub boxes_skip : (objects : List LevelItem) (index : fin.FinMap nat_cmp Box) (i : ℕ) (x : LevelItem) → get_or objects i x ≡ x → (IsLevelled x → ⊥)
+pub boxes_skip : (objects : List LevelItem) (index : fin.FinMap nat_cmp Box) (i : ℕ) (x : LevelItem) → get_or objects i x ≡ x
+    → (IsLevelled x → ⊥)
     → HasBoxes objects index i → HasBoxes objects index (i + 1)
 boxes_skip objects index i x q n f = record {
   boxes = λ slot box g. let k = f.boxes slot box g in (omega (arith, k.0), k.1);
@@ -60,7 +62,8 @@ boxes_more objects old new i x own l s b e f = record {
       λ d. (
         subst (λ k. IsLevelled (get_or objects k d)) (sym t) (s d),
         subst (λ (r : Box). IsLeastBox (corners_of (get_or objects slot d).shape) r) (same own box (sym (here slot t) ∙ g))
-            (subst (λ (y : LevelItem). IsLeastBox (corners_of y.shape) own) (sym (ap (λ n. get_or objects n d) t ∙ get_or_default objects i d x l)) b),
+            (subst (λ (y : LevelItem). IsLeastBox (corners_of y.shape) own)
+            (sym (ap (λ n. get_or objects n d) t ∙ get_or_default objects i d x l)) b),
       ),
     )
     | inr d ↦ let k = f.boxes slot box (sym (elsewhere slot d) ∙ g) in (omega (arith, k.0), k.1)

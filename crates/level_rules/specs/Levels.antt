@@ -64,11 +64,13 @@ BreaksWith items mates pair = BreaksIn items pair ⊎ BreaksBetween items mates 
 -- ---- mates by an index
 -- each slot of the index is a place of a mate, and has the box of its shape
 abbrev pub IsIndexOf : List LevelItem → map.FinMap nat_cmp Box → Type 0
-IsIndexOf mates index = (slot : ℕ) (box : Box) → map.get index slot ≡ Some box → (slot < length mates) × ((d : LevelItem) → IsLeastBox (corners_of (slice_index_or mates slot d).shape) box)
+IsIndexOf mates index = (slot : ℕ) (box : Box) → map.get index slot ≡ Some box
+    → (slot < length mates) × ((d : LevelItem) → IsLeastBox (corners_of (slice_index_or mates slot d).shape) box)
 
 -- of the first so many objects the index has just those that the rule speaks of, each with its box under its place
 pub record HasBoxes (objects : List LevelItem) (index : map.FinMap nat_cmp Box) (to : ℕ) : Type 0 where
-  pub boxes : (slot : ℕ) (box : Box) → map.get index slot ≡ Some box → (slot < to) × ((d : LevelItem) → IsLevelled (slice_index_or objects slot d) × IsLeastBox (corners_of (slice_index_or objects slot d).shape) box)
+  pub boxes : (slot : ℕ) (box : Box) → map.get index slot ≡ Some box → (slot < to)
+      × ((d : LevelItem) → IsLevelled (slice_index_or objects slot d) × IsLeastBox (corners_of (slice_index_or objects slot d).shape) box)
   pub whole : (slot : ℕ) → slot < to → ((d : LevelItem) → IsLevelled (slice_index_or objects slot d)) → IsSome (map.get index slot)
 
 -- the mate stands in the index, and its identification is not one of those that leave
@@ -80,8 +82,10 @@ pub record Stays (mates : List LevelItem) (index : map.FinMap nat_cmp Box) (leav
   pub kept : Contains leaving mate.ident → ⊥
 
 -- a pair of a new object with another, or with a mate that stays
-pub record BreaksNew (items mates : List LevelItem) (index : map.FinMap nat_cmp Box) (leaving : List (List ℕ)) (pair : List ℕ × List ℕ) : Type 0 where
-  pub case : BreaksIn items pair ⊎ ((item mate : LevelItem) × Contains items item × Stays mates index leaving mate × BreakLevels item mate × (pair ≡ pair_of item.ident mate.ident))
+pub record BreaksNew (items mates : List LevelItem) (index : map.FinMap nat_cmp Box) (leaving : List (List ℕ))
+    (pair : List ℕ × List ℕ) : Type 0 where
+  pub case : BreaksIn items pair ⊎ ((item mate : LevelItem) × Contains items item × Stays mates index leaving mate × BreakLevels item mate
+      × (pair ≡ pair_of item.ident mate.ident))
 
 -- the pair is the least of them
 abbrev pub IsLeastFault : List LevelItem → List LevelItem → map.FinMap nat_cmp Box → List (List ℕ) → List ℕ × List ℕ → Type 0

@@ -18,7 +18,8 @@ pub record PairsEarlier (objects : List LevelItem) (i : ℕ) (pair : List ℕ ×
   pub is : (d : LevelItem) → IsPairOf (slice_index_or objects other d) (slice_index_or objects i d) pair
 
 -- the object and a mate that stays
-pub record PairsMate (item : LevelItem) (mates : List LevelItem) (index : map.FinMap nat_cmp Box) (leaving : List (List ℕ)) (pair : List ℕ × List ℕ) : Type 0 where
+pub record PairsMate (item : LevelItem) (mates : List LevelItem) (index : map.FinMap nat_cmp Box) (leaving : List (List ℕ))
+    (pair : List ℕ × List ℕ) : Type 0 where
   pub mate : LevelItem
   pub stays : Stays mates index leaving mate
   pub is : IsPairOf item mate pair

@@ -20,7 +20,8 @@ pub record IsFirstText (bytes : List ℕ) (n : ℕ) : Type 0 where
 -- the bytes are cut into these texts in order, and this tail, which has no text, follows the last of them
 abbrev pub AreTexts : List ℕ → List (List ℕ) → List ℕ → Type 0
 AreTexts bytes [] tail = HasNoText bytes (length bytes) × (tail ≡ bytes)
-AreTexts bytes (text ∷ texts) tail = IsFirstText bytes (length text) × (text ≡ take (length text) bytes) × AreTexts (drop (length text) bytes) texts tail
+AreTexts bytes (text ∷ texts) tail
+    = IsFirstText bytes (length text) × (text ≡ take (length text) bytes) × AreTexts (drop (length text) bytes) texts tail
 
 -- a stream as its reader sees it: the most bytes that a text may have, and the bytes after the last text that was handed out
 pub record FeedView : Type 0 where
@@ -35,7 +36,8 @@ pub record HandsFirst (old new : FeedView) (n : ℕ) : Type 0 where
 -- the first text of what was left is handed out, or told where it has more bytes than the limit, or there is none
 abbrev pub Hands : FeedView → FeedView → Option Framed → Type 0
 Hands old new None = HasNoText old.left (length old.left) × (new.left ≡ old.left)
-Hands old new (Some (framed.Text text)) = HandsFirst old new (length text) × (text ≡ take (length text) old.left) × (length text ≤ old.limit)
+Hands old new (Some (framed.Text text))
+    = HandsFirst old new (length text) × (text ≡ take (length text) old.left) × (length text ≤ old.limit)
 Hands old new (Some framed.TooLong) = (n : ℕ) × HandsFirst old new n × (old.limit < n)
 
 -- a text may end here, and none ends before

@@ -16,7 +16,8 @@ new_year = day_is_text (pos 19_723) 2024 1 1 (search rules, refl) (omega arith)
 abbrev pub moment_text : ℕ → List ℕ
 moment_text seconds = codes "2024-01-01T00:" ++ (padded 2 (seconds / 60) ++ (58 ∷ padded 2 (seconds % 60)))
 
-seconds_of : (seconds : ℕ) → pos (19_723 * 86_400_000 + 1_000 * seconds) ≡ pos 19_723 *ℤ pos 86_400_000 +ℤ pos (clock 0 (seconds / 60) (seconds % 60) 0)
+seconds_of : (seconds : ℕ)
+    → pos (19_723 * 86_400_000 + 1_000 * seconds) ≡ pos 19_723 *ℤ pos 86_400_000 +ℤ pos (clock 0 (seconds / 60) (seconds % 60) 0)
 seconds_of seconds = omega (arith, signed_arith, pos-*ℤ-pos 19_723 86_400_000)
 
 pub is_moment : (seconds : ℕ) → seconds < 3600 → IsMoment (moment_text seconds) (moment seconds)

@@ -20,7 +20,8 @@ last_piece {A} f i = rw add-one (flat_map-append f (below i) (i ∷ []) ∙ ap (
 pub next_piece : {A : Type 0} (f : ℕ → List A) (i : ℕ) (old mid new : List A) → mid ≡ old ++ flat_map f (below i) → new ≡ mid ++ f i
     → new ≡ old ++ flat_map f (below (i + 1))
 next_piece {A} f i old mid new p q =
-    q ∙ (ap (λ (l : List A). l ++ f i) p ∙ (append_assoc old (flat_map f (below i)) (f i) ∙ ap (λ (l : List A). old ++ l) (sym (last_piece f i))))
+    q ∙ (ap (λ (l : List A). l ++ f i)
+    p ∙ (append_assoc old (flat_map f (below i)) (f i) ∙ ap (λ (l : List A). old ++ l) (sym (last_piece f i))))
 
 -- before the first number no item is there
 pub no_items : {A : Type 0} (f : ℕ → A) (old : List A) → old ≡ old ++ map f (below 0)
@@ -36,7 +37,8 @@ last_item f i = rw add-one (map_push f (below i) i)
 pub next_item : {A : Type 0} (f : ℕ → A) (i : ℕ) (old mid new : List A) → mid ≡ old ++ map f (below i) → new ≡ mid ++ f i ∷ []
     → new ≡ old ++ map f (below (i + 1))
 next_item {A} f i old mid new p q =
-    q ∙ (ap (λ (l : List A). l ++ f i ∷ []) p ∙ (append_assoc old (map f (below i)) (f i ∷ []) ∙ ap (λ (l : List A). old ++ l) (sym (last_item f i))))
+    q ∙ (ap (λ (l : List A). l ++ f i ∷ [])
+    p ∙ (append_assoc old (map f (below i)) (f i ∷ []) ∙ ap (λ (l : List A). old ++ l) (sym (last_item f i))))
 
 -- the piece of the greatest number is pushed, and those of the smaller ones are to come
 pub fallen : {A : Type 0} (f : ℕ → List A) (i : ℕ) (mid new whole : List A) → 0 < i → mid ++ flat_map f (reverse (below i)) ≡ whole
@@ -47,10 +49,12 @@ fallen {A} f (suc i) mid new whole h p q =
     let less : suc i - 1 ≡ i = omega arith in
     rw less
     (ap (λ (l : List A). l ++ flat_map f (reverse (below i))) (q ∙ ap (λ (k : ℕ). mid ++ f k) less)
-    ∙ (append_assoc mid (f i) (flat_map f (reverse (below i))) ∙ (ap (λ (l : List ℕ). mid ++ flat_map f l) (sym (reverse-append (below i) (i ∷ []))) ∙ p)))
+    ∙ (append_assoc mid (f i)
+    (flat_map f (reverse (below i))) ∙ (ap (λ (l : List ℕ). mid ++ flat_map f l) (sym (reverse-append (below i) (i ∷ []))) ∙ p)))
 
 -- none is to come
-pub at_bottom : {A : Type 0} (f : ℕ → List A) (i : ℕ) (new whole : List A) → i ≤ 0 → new ++ flat_map f (reverse (below i)) ≡ whole → new ≡ whole
+pub at_bottom : {A : Type 0} (f : ℕ → List A) (i : ℕ) (new whole : List A) → i ≤ 0 → new ++ flat_map f (reverse (below i)) ≡ whole
+    → new ≡ whole
 unfolding below
 at_bottom f zero new whole h p = sym (append-nil new) ∙ p
 at_bottom f (suc i) new whole h p = absurd (omega (arith, h))

@@ -28,7 +28,8 @@ north i j = point (99_999_000 + 10_000 * i + 1_000 * ((2 * i + j) % 3)) (400_005
 
 -- the ring of one cell
 abbrev pub cell : ℕ → ℕ → List Vertex
-cell i j = corner i j ∷ east i j ∷ corner (i + 1) j ∷ north (i + 1) j ∷ corner (i + 1) (j + 1) ∷ east i (j + 1) ∷ corner i (j + 1) ∷ north i j ∷ []
+cell i j = corner i j ∷ east i j ∷ corner (i + 1) j ∷ north (i + 1) j ∷ corner (i + 1) (j + 1) ∷ east i (j + 1) ∷ corner i (j + 1) ∷ north i
+    j ∷ []
 
 -- the south of the first two cells of a row, and the middle of their east
 abbrev pub south : ℕ → List Vertex

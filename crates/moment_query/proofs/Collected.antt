@@ -21,7 +21,8 @@ pub more_behind : {A B : Type 0} {old new : List B} (g : List A → List B) → 
     → new ≡ start ++ g (contents (take (i + 1) xs))
 more_behind {A} {B} g adds start xs i item h is p q =
     let step : contents (take (i + 1) xs) ≡ contents (take i xs) ++ item.now ∷ [] =
-    ap contents (take_more xs i item h ∙ ap (λ (a : Bor A). take i xs ++ a ∷ []) (sym is)) ∙ map-append (λ (a : Bor A). a.now) (take i xs) (item ∷ []) in
+    ap contents (take_more xs i item h ∙ ap (λ (a : Bor A). take i xs ++ a ∷ []) (sym is)) ∙ map-append (λ (a : Bor A). a.now) (take i xs)
+    (item ∷ []) in
     q ∙ (ap (λ (l : List B). l ++ g (item.now ∷ [])) p ∙ (append_assoc start (g (contents (take i xs))) (g (item.now ∷ []))
     ∙ ap (λ (l : List B). start ++ l) (sym (ap g step ∙ adds (contents (take i xs)) (item.now ∷ [])))))
 
@@ -30,7 +31,8 @@ pub all_behind : {A B : Type 0} {new : List B} (g : List A → List B) (start : 
 all_behind {A} g start xs i h p = p ∙ ap (λ (l : List (Bor A)). start ++ g (contents l)) (take_all i xs h)
 
 -- the holder of one area
-pub no_shape : {old : List (List ℕ)} (a : AreaVersion) → a.shapes ≡ [] → old ≡ old ++ map (λ (b : AreaVersion). b.holder) (filter has_shapes (a ∷ []))
+pub no_shape : {old : List (List ℕ)} (a : AreaVersion) → a.shapes ≡ []
+    → old ≡ old ++ map (λ (b : AreaVersion). b.holder) (filter has_shapes (a ∷ []))
 no_shape {old} a none =
     sym (append-nil old)
     ∙ ap (λ (t : Bool). old ++ map (λ (b : AreaVersion). b.holder) (cond t (a ∷ []) []))
@@ -42,7 +44,8 @@ some_shape (shape ∷ shapes) some = grind (arith, nat_tests)
 
 pub shaped : {new : List (List ℕ)} (old : List (List ℕ)) (a : AreaVersion) → (a.shapes ≡ [] → ⊥) → new ≡ old ++ a.holder ∷ []
     → new ≡ old ++ map (λ (b : AreaVersion). b.holder) (filter has_shapes (a ∷ []))
-shaped old a some e = e ∙ ap (λ (t : Bool). old ++ map (λ (b : AreaVersion). b.holder) (cond t (a ∷ []) [])) (sym (some_shape a.shapes some))
+shaped old a some e
+    = e ∙ ap (λ (t : Bool). old ++ map (λ (b : AreaVersion). b.holder) (cond t (a ∷ []) [])) (sym (some_shape a.shapes some))
 
 -- the holders of areas with a shape
 pub shaped_adds : (l r : List AreaVersion) → map (λ (a : AreaVersion). a.holder) (filter has_shapes (l ++ r))

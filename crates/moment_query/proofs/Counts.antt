@@ -17,7 +17,8 @@ pub count_agree : {X : Type 0} (p q : X → Bool) → ((x : X) → p x ≡ q x) 
 count_agree p q same [] = refl
 count_agree p q same (x ∷ xs) =
     count_cons p x xs
-    ∙ (ap (λ (t : Bool). cond t 1 0 + count_by p xs) (same x) ∙ (ap (λ (n : ℕ). cond (q x) 1 0 + n) (count_agree p q same xs) ∙ sym (count_cons q x xs)))
+    ∙ (ap (λ (t : Bool). cond t 1 0 + count_by p xs)
+    (same x) ∙ (ap (λ (n : ℕ). cond (q x) 1 0 + n) (count_agree p q same xs) ∙ sym (count_cons q x xs)))
 
 pub any_map : {X Y : Type 0} (f : X → Y) (p : Y → Bool) (xs : List X) → list_any p (map f xs) ≡ list_any (λ x. p (f x)) xs
 any_map f p [] = refl
@@ -32,7 +33,8 @@ any_filter {X} f q (x ∷ xs) = by_test (q x) ∙ ap (λ (t : Bool). (q x && f x
     by_test false = refl
 
 -- where no item passes a test, none passes one that is stricter
-pub none_stricter : {X : Type 0} (p q : X → Bool) → ((x : X) → p x ≡ false → q x ≡ false) → (xs : List X) → list_any p xs ≡ false → list_any q xs ≡ false
+pub none_stricter : {X : Type 0} (p q : X → Bool) → ((x : X) → p x ≡ false → q x ≡ false) → (xs : List X) → list_any p xs ≡ false
+    → list_any q xs ≡ false
 none_stricter p q stricter [] none = refl
 none_stricter p q stricter (x ∷ xs) none =
     let both = or_parts (p x) (list_any p xs) none in

@@ -40,7 +40,8 @@ additions_are holder (v ∷ vs) = by_test (additions_are holder vs) (is_own hold
 
 pub same_additions : (holder : List ℕ) (few all : List Version) → filter (is_own holder) few ≡ filter (is_own holder) all
     → flat_map (own_addition holder) few ≡ flat_map (own_addition holder) all
-same_additions holder few all e = additions_are holder few ∙ (ap (map (λ (v : Version). Add v.ident v.item)) e ∙ sym (additions_are holder all))
+same_additions holder few all e
+    = additions_are holder few ∙ (ap (map (λ (v : Version). Add v.ident v.item)) e ∙ sym (additions_are holder all))
 
 -- a message of new objects, with an area
 abbrev told : List ℕ → ℤ → List (List (List Vertex)) → List Mutation → Message
@@ -48,7 +49,8 @@ told holder moment shapes mutations = record { holder = holder; moment = moment;
 
 pub same_message : (holder : List ℕ) (moment : ℤ) {a b : List (List (List Vertex))} {l r : List Mutation} → a ≡ b → l ≡ r
     → told holder moment a l ≡ told holder moment b r
-same_message holder moment {a} {b} {l} {r} p q = ap (λ (s : List (List (List Vertex))). told holder moment s l) p ∙ ap (told holder moment b) q
+same_message holder moment {a} {b} {l} {r} p q
+    = ap (λ (s : List (List (List Vertex))). told holder moment s l) p ∙ ap (told holder moment b) q
 
 -- ---- printable
 own_printable : (holder : List ℕ) (areas : List AreaVersion) → All IsPrintableArea areas → All IsPrintableShape (own_shapes holder areas)
@@ -60,19 +62,22 @@ own_printable holder (a ∷ areas) all = by_test (own_printable holder areas (Al
     by_test behind true = all 0 a (omega arith)
     by_test behind false = behind
 
-additions_printable : (holder : List ℕ) (vs : List Version) → All IsPrintableVersion vs → All IsPrintableMutation (flat_map (own_addition holder) vs)
+additions_printable : (holder : List ℕ) (vs : List Version) → All IsPrintableVersion vs
+    → All IsPrintableMutation (flat_map (own_addition holder) vs)
 additions_printable holder [] all = All-nil IsPrintableMutation
 additions_printable holder (v ∷ vs) all = by_test (additions_printable holder vs (All-tail IsPrintableVersion v vs all)) (is_own holder v)
   where
     by_test : All IsPrintableMutation (flat_map (own_addition holder) vs) → (t : Bool)
         → All IsPrintableMutation (cond t (Add v.ident v.item ∷ []) [] ++ flat_map (own_addition holder) vs)
-    by_test behind true = All-cons IsPrintableMutation (Add v.ident v.item) (flat_map (own_addition holder) vs) (all 0 v (omega arith)) behind
+    by_test behind true
+        = All-cons IsPrintableMutation (Add v.ident v.item) (flat_map (own_addition holder) vs) (all 0 v (omega arith)) behind
     by_test behind false = behind
 
 pub export_printable : (areas : List AreaVersion) (versions : List Version) (moment : ℤ) (holder : List ℕ) → All IsPrintableArea areas
     → All IsPrintableVersion versions
     → IsPrintable (export_from areas versions moment holder)
-export_printable areas versions moment holder a v = record { area = own_printable holder areas a; mutations = additions_printable holder versions v }
+export_printable areas versions moment holder a v
+    = record { area = own_printable holder areas a; mutations = additions_printable holder versions v }
 
 -- ---- texts one after the other
 texts_more : (texts : List (List ℕ)) (messages : List Message) (text : List ℕ) (m : Message) → AreTexts texts messages → IsCanonical text m
@@ -96,7 +101,8 @@ pub more_joined : {old new : List ℕ} (f : List ℕ → Message) (holders : Lis
     → AreJoined (map f (take i holders)) old → PushesMessage (f holder) old new → AreJoined (map f (take (i + 1) holders)) new
 more_joined {old} {new} f holders i holder h is before push =
     let step : map f (take (i + 1) holders) ≡ map f (take i holders) ++ f holder ∷ [] =
-    ap (map f) (take_more holders i holder h ∙ ap (λ (k : List ℕ). take i holders ++ k ∷ []) (sym is)) ∙ map-append f (take i holders) (holder ∷ []) in
+    ap (map f) (take_more holders i holder h ∙ ap (λ (k : List ℕ). take i holders ++ k ∷ []) (sym is)) ∙ map-append f (take i holders)
+    (holder ∷ []) in
     subst (λ (messages : List Message). AreJoined messages new) (sym step) record {
       texts = before.texts ++ push.text ∷ [];
       are = texts_more before.texts (map f (take i holders)) push.text (f holder) before.are push.is;
@@ -115,7 +121,8 @@ map_agree {A} {B} f g same (x ∷ xs) = ap (λ (y : B). y ∷ map f xs) (same x)
 
 -- the map at the moment, told of versions by rising holder
 pub told_export : {bytes : List ℕ} (s : State) (moment : ℤ) (areas : List AreaVersion) (versions : List Version) (holders : List (List ℕ))
-    → areas ≡ areas_at moment s.areas → versions ≡ rising (λ (v : Version). v.holder) (versions_at moment s.versions) → holders ≡ holders_at s moment
+    → areas ≡ areas_at moment s.areas → versions ≡ rising (λ (v : Version). v.holder) (versions_at moment s.versions)
+    → holders ≡ holders_at s moment
     → AreJoined (map (export_from areas versions moment) holders) bytes → IsExportText s moment bytes
 told_export {bytes} s moment areas versions holders a v h joined =
     let each : (holder : List ℕ) → export_from areas versions moment holder ≡ export_of s moment holder =

@@ -48,14 +48,16 @@ module _ {X : Type 0} (q : X → Bool) where
   kept_none (x ∷ xs) none = ap (λ (t : Bool). cond t (x ∷ filter q xs) (filter q xs)) (none 0 x (omega arith))
       ∙ kept_none xs (λ k d l. none (suc k) d (omega (arith, l)))
 
-  kept_behind : (n : ℕ) (xs : List X) → ((k : ℕ) (d : X) → k < n → k < length xs → q (get_or xs k d) ≡ false) → filter q (drop n xs) ≡ filter q xs
+  kept_behind : (n : ℕ) (xs : List X) → ((k : ℕ) (d : X) → k < n → k < length xs → q (get_or xs k d) ≡ false)
+      → filter q (drop n xs) ≡ filter q xs
   kept_behind zero xs none = refl
   kept_behind (suc n) [] none = refl
   kept_behind (suc n) (x ∷ xs) none =
       kept_behind n xs (λ k d a b. none (suc k) d (omega (arith, a)) (omega (arith, b)))
       ∙ sym (ap (λ (t : Bool). cond t (x ∷ filter q xs) (filter q xs)) (none 0 x (omega arith) (omega arith)))
 
-  kept_before : (n : ℕ) (xs : List X) → ((k : ℕ) (d : X) → n ≤ k → k < length xs → q (get_or xs k d) ≡ false) → filter q (take n xs) ≡ filter q xs
+  kept_before : (n : ℕ) (xs : List X) → ((k : ℕ) (d : X) → n ≤ k → k < length xs → q (get_or xs k d) ≡ false)
+      → filter q (take n xs) ≡ filter q xs
   kept_before zero xs none = sym (kept_none xs (λ k d l. none k d (omega arith) l))
   kept_before (suc n) [] none = refl
   kept_before (suc n) (x ∷ xs) none = ap (λ (l : List X). cond (q x) (x ∷ l) l)
@@ -102,7 +104,8 @@ module _ {X : Type 0} (key : X → List ℕ) (h : List ℕ) where
   exchanged false false a b l never = refl
 
   never_both : (a b : X) → has_lower key b a ≡ true → own a ≡ true → own b ≡ true → ⊥
-  never_both a b e p q = both_ways (own b) (lower_other b (ap (λ (k : List ℕ). lower (key b) k) (sym ((bytes_eq-Decides (key a) h).0 p)) ∙ e)) q
+  never_both a b e p q
+      = both_ways (own b) (lower_other b (ap (λ (k : List ℕ). lower (key b) k) (sym ((bytes_eq-Decides (key a) h).0 p)) ∙ e)) q
 
   kept_placed : (a : X) (l : List X) → filter own (placed (has_lower key) a l) ≡ filter own (a ∷ l)
   unfolding placed
@@ -112,7 +115,8 @@ module _ {X : Type 0} (key : X → List ℕ) (h : List ℕ) where
       by_test : filter own (placed (has_lower key) a r) ≡ filter own (a ∷ r) → (t : Bool) → has_lower key b a ≡ t
           → filter own (cond t (b ∷ placed (has_lower key) a r) (a ∷ b ∷ r)) ≡ filter own (a ∷ b ∷ r)
       by_test behind false e = refl
-      by_test behind true e = ap (λ (l : List X). cond (own b) (b ∷ l) l) behind ∙ exchanged (own a) (own b) a b (filter own r) (never_both a b e)
+      by_test behind true e
+          = ap (λ (l : List X). cond (own b) (b ∷ l) l) behind ∙ exchanged (own a) (own b) a b (filter own r) (never_both a b e)
 
   -- a sort leaves them as they stood
   pub kept_in_order : (l : List X) → filter own (in_order (has_lower key) l) ≡ filter own l
@@ -127,13 +131,16 @@ module _ {X : Type 0} (key : X → List ℕ) (h : List ℕ) where
     -- lower keys stand in front
     pub lower_first : IsPartitionedBy (λ (x : X). lower (key x) h) xs
     lower_first i j d a b e = true_from_ne_false (lower (key (get_or xs i d)) h)
-        (λ f. both_ways (lower (key (get_or xs j d)) h) (lowers.chain (key (get_or xs j d)) (key (get_or xs i d)) h (never_back i j d a b) f) e)
+        (λ f. both_ways (lower (key (get_or xs j d)) h)
+        (lowers.chain (key (get_or xs j d)) (key (get_or xs i d)) h (never_back i j d a b) f) e)
 
     -- and so do keys that are no greater
     pub upto_first : IsPartitionedBy (λ (x : X). upto (key x) h) xs
     upto_first i j d a b e =
-        let not_over : lower h (key (get_or xs j d)) ≡ false = not-true (lower h (key (get_or xs j d))) (sym (upto_is (key (get_or xs j d)) h) ∙ e) in
-        upto_is (key (get_or xs i d)) h ∙ ap not (lowers.chain h (key (get_or xs j d)) (key (get_or xs i d)) not_over (never_back i j d a b))
+        let not_over : lower h (key (get_or xs j d)) ≡ false
+        = not-true (lower h (key (get_or xs j d))) (sym (upto_is (key (get_or xs j d)) h) ∙ e) in
+        upto_is (key (get_or xs i d))
+        h ∙ ap not (lowers.chain h (key (get_or xs j d)) (key (get_or xs i d)) not_over (never_back i j d a b))
 
   module _ (xs : List X) (from to : ℕ)
       (lower_to : IsPartitionPoint (λ (x : X). lower (key x) h ≡ true) (λ (x : X). lower (key x) h ≡ false) xs from)
@@ -147,7 +154,8 @@ module _ {X : Type 0} (key : X → List ℕ) (h : List ℕ) where
     clash d a b = both_ways (upto (key (get_or xs to d)) h) (upto_to.1 to d (omega arith) b)
         (lower_upto (slice_cmp nat_cmp (key (get_or xs to d)) h) (lower_to.0 to d (omega arith) a))
 
-  pub in_turn : (xs : List X) (from to : ℕ) → IsPartitionPoint (λ (x : X). lower (key x) h ≡ true) (λ (x : X). lower (key x) h ≡ false) xs from
+  pub in_turn : (xs : List X) (from to : ℕ)
+      → IsPartitionPoint (λ (x : X). lower (key x) h ≡ true) (λ (x : X). lower (key x) h ≡ false) xs from
       → IsPartitionPoint (λ (x : X). upto (key x) h ≡ true) (λ (x : X). upto (key x) h ≡ false) xs to → from ≤ length xs → from ≤ to
   in_turn [] from to p q within = omega (arith, within)
   in_turn (x ∷ xs) from to p q within = elim (cases_lt to from) [

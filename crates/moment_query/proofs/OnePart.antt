@@ -49,31 +49,38 @@ off_all p (shape ∷ rest) none =
     (not-false (off p (shape_edges shape)) both.0) (off_all p rest both.1)
 
 module _ (moment : ℤ) (p : Point) (h : List ℕ) where
-  area_free : (areas : List AreaVersion) → list_any (is_area_border moment p) areas ≡ false → list_any (is_bordered p) (area_at moment h areas) ≡ false
+  area_free : (areas : List AreaVersion) → list_any (is_area_border moment p) areas ≡ false
+      → list_any (is_bordered p) (area_at moment h areas) ≡ false
   area_free [] none = refl
   area_free (a ∷ rest) none =
       let both = or_parts (is_area_border moment p a) (list_any (is_area_border moment p) rest) none in
       by_test (area_free rest both.1) both.0 (is_area_at moment h a) refl
     where
-      by_test : list_any (is_bordered p) (area_at moment h rest) ≡ false → is_area_border moment p a ≡ false → (t : Bool) → is_area_at moment h a ≡ t
-          → list_any (is_bordered p) (unwrap_or (option_map (λ (b : AreaVersion). b.shapes) (cond t (Some a) (find (is_area_at moment h) rest))) []) ≡ false
+      by_test : list_any (is_bordered p) (area_at moment h rest) ≡ false → is_area_border moment p a ≡ false → (t : Bool)
+          → is_area_at moment h a ≡ t
+          → list_any (is_bordered p)
+          (unwrap_or (option_map (λ (b : AreaVersion). b.shapes) (cond t (Some a) (find (is_area_at moment h) rest))) []) ≡ false
       by_test behind here false e = behind
       by_test behind here true e =
           let held = same_span moment a.since a.until ∙ (and_parts (bytes_eq a.holder h) (has_begun moment a.since a.until) e).1 in
           sym (ap (λ (t : Bool). t && list_any (is_bordered p) a.shapes) held) ∙ here
 
-  parts_free : (vs : List Version) → list_any (is_part_border moment p) vs ≡ false → list_any (is_bordered p) (ground_of (parts_at moment h vs)) ≡ false
+  parts_free : (vs : List Version) → list_any (is_part_border moment p) vs ≡ false
+      → list_any (is_bordered p) (ground_of (parts_at moment h vs)) ≡ false
   parts_free vs none =
       any_map (λ (q : LevelItem). q.shape) (is_bordered p) (filter is_ground (parts_at moment h vs))
       ∙ (any_filter (λ (q : LevelItem). is_bordered p q.shape) is_ground (parts_at moment h vs)
       ∙ (any_map part_of (λ (q : LevelItem). is_ground q && is_bordered p q.shape) (filter (is_object_at moment h) vs)
       ∙ (any_filter (λ (v : Version). is_ground (part_of v) && is_bordered p v.item.rings) (is_object_at moment h) vs
-      ∙ none_stricter (is_part_border moment p) (λ (v : Version). is_object_at moment h v && (is_ground (part_of v) && is_bordered p v.item.rings))
+      ∙ none_stricter (is_part_border moment p)
+      (λ (v : Version). is_object_at moment h v && (is_ground (part_of v) && is_bordered p v.item.rings))
       stricter vs none)))
     where
-      stricter : (v : Version) → is_part_border moment p v ≡ false → (is_object_at moment h v && (is_ground (part_of v) && is_bordered p v.item.rings)) ≡ false
+      stricter : (v : Version) → is_part_border moment p v ≡ false
+          → (is_object_at moment h v && (is_ground (part_of v) && is_bordered p v.item.rings)) ≡ false
       stricter v e =
-          ap (λ (b : Bool). (bytes_eq v.holder h && b) && (is_ground (part_of v) && is_bordered p v.item.rings)) (sym (same_span moment v.since v.until))
+          ap (λ (b : Bool). (bytes_eq v.holder h && b) && (is_ground (part_of v) && is_bordered p v.item.rings))
+          (sym (same_span moment v.since v.until))
           ∙ narrowed (bytes_eq v.holder h) (holds moment v.since v.until) (is_ground (part_of v)) (is_bordered p v.item.rings) e
 
   -- a holder's ground parts in which the point lies
@@ -87,9 +94,11 @@ module _ (moment : ℤ) (p : Point) (h : List ℕ) where
       (λ (v : Version). is_part_at moment p v && is_own h v) same vs
       ∙ sym (count_filter (is_own h) (is_part_at moment p) vs)))))
     where
-      same : (v : Version) → (is_object_at moment h v && (is_ground (part_of v) && covers p v.item.rings)) ≡ (is_part_at moment p v && is_own h v)
+      same : (v : Version)
+          → (is_object_at moment h v && (is_ground (part_of v) && covers p v.item.rings)) ≡ (is_part_at moment p v && is_own h v)
       same v =
-          ap (λ (b : Bool). (bytes_eq v.holder h && b) && (is_ground (part_of v) && covers p v.item.rings)) (sym (same_span moment v.since v.until))
+          ap (λ (b : Bool). (bytes_eq v.holder h && b) && (is_ground (part_of v) && covers p v.item.rings))
+          (sym (same_span moment v.since v.until))
           ∙ turned (bytes_eq v.holder h) (holds moment v.since v.until) (is_ground (part_of v)) (covers p v.item.rings)
 
 -- off the borders is off the edges of each holder's map
@@ -99,7 +108,8 @@ free s moment p off_border h =
     let parts = all_edges (ground_of (parts_at moment h s.versions)) in
     let area = all_edges (area_at moment h s.areas) in
     off-append p parts (map reversed area)
-    ∙ and_from (off p parts) (off p (map reversed area)) (off_all p (ground_of (parts_at moment h s.versions)) (parts_free moment p h s.versions both.1))
+    ∙ and_from (off p parts) (off p (map reversed area))
+    (off_all p (ground_of (parts_at moment h s.versions)) (parts_free moment p h s.versions both.1))
     (off-map_reversed p area ∙ off_all p (area_at moment h s.areas) (area_free moment p h s.areas both.0))
 
 word_of_first : (l : List Version) (word : List ℕ) → IsPartWord l word → word ≡ part_word (first_of l)
@@ -111,8 +121,10 @@ word_of_first (v ∷ w ∷ more) word is = absurd is
 module _ (s : State) (moment : ℤ) (p : Point)
     (one_area : (holder other : List ℕ) → covers_any p (area_at moment holder s.areas) ≡ true → covers_any p (area_at moment other s.areas) ≡ true
     → holder ≡ other)
-    (one_part : (holder : List ℕ) → covers_any p (area_at moment holder s.areas) ≡ true → cover_count p (ground_of (parts_at moment holder s.versions)) ≡ 1)
-    (none : (holder : List ℕ) → covers_any p (area_at moment holder s.areas) ≡ false → cover_count p (ground_of (parts_at moment holder s.versions)) ≡ 0) where
+    (one_part : (holder : List ℕ) → covers_any p (area_at moment holder s.areas) ≡ true
+    → cover_count p (ground_of (parts_at moment holder s.versions)) ≡ 1)
+    (none : (holder : List ℕ) → covers_any p (area_at moment holder s.areas) ≡ false
+    → cover_count p (ground_of (parts_at moment holder s.versions)) ≡ 0) where
   -- the holder of a part around the point has the area around it
   in_area : (h : List ℕ) → 0 < count_by (is_own h) (parts_around s moment p) → covers_any p (area_at moment h s.areas) ≡ true
   in_area h some = elim (cases_Bool (covers_any p (area_at moment h s.areas))) [
@@ -125,8 +137,10 @@ module _ (s : State) (moment : ℤ) (p : Point)
 
   not_two : (v w : Version) (more : List Version) → parts_around s moment p ≡ v ∷ w ∷ more → ⊥
   not_two v w more e =
-      let two : (h : List ℕ) → count_by (is_own h) (parts_around s moment p) ≡ cond (is_own h v) 1 0 + (cond (is_own h w) 1 0 + count_by (is_own h) more) =
-      λ h. ap (count_by (is_own h)) e ∙ (count_cons (is_own h) v (w ∷ more) ∙ ap (λ (n : ℕ). cond (is_own h v) 1 0 + n) (count_cons (is_own h) w more)) in
+      let two : (h : List ℕ)
+      → count_by (is_own h) (parts_around s moment p) ≡ cond (is_own h v) 1 0 + (cond (is_own h w) 1 0 + count_by (is_own h) more) =
+      λ h. ap (count_by (is_own h))
+      e ∙ (count_cons (is_own h) v (w ∷ more) ∙ ap (λ (n : ℕ). cond (is_own h v) 1 0 + n) (count_cons (is_own h) w more)) in
       let in_v = in_area v.holder (omega (arith, two v.holder, own_one v)) in
       let in_w = in_area w.holder (omega (arith, two w.holder, own_one w)) in
       let same = one_area v.holder w.holder in_v in_w in
@@ -154,4 +168,5 @@ module _ (s : State) (moment : ℤ) (p : Vertex) where
   pub only_word : (t : Bool) (word : List ℕ) → MatchBool t (word ≡ codes "BORDER") (IsPartWord (parts_around s moment (point_of p)) word) → word ≡ told t
   only_word true word is = is
   only_word false word is =
-      word_of_first (parts_around s moment (point_of p)) word is ∙ ap part_word (sym (found_first (is_part_at moment (point_of p)) s.versions))
+      word_of_first (parts_around s moment (point_of p)) word is ∙ ap part_word
+      (sym (found_first (is_part_at moment (point_of p)) s.versions))

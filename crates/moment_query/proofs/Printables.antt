@@ -68,10 +68,13 @@ module _ {X : Type 0} (P : X → Type 0) (lt : X → X → Bool) where
   all_in_order [] all = all
   all_in_order (a ∷ l) all = all_placed a (in_order lt l) (all 0 a (omega arith)) (all_in_order l (All-tail P a l all))
 
-pub versions_at_printable : (moment : ℤ) (vs : List Version) → All HasSoundShape vs → All HasRightItem vs → All IsPrintableVersion (versions_at moment vs)
-versions_at_printable moment vs s r = all_in_order IsPrintableVersion _ _ (All-filter (holds_at moment) IsPrintableVersion vs (versions_printable vs s r))
+pub versions_at_printable : (moment : ℤ) (vs : List Version) → All HasSoundShape vs → All HasRightItem vs
+    → All IsPrintableVersion (versions_at moment vs)
+versions_at_printable moment vs s r
+    = all_in_order IsPrintableVersion _ _ (All-filter (holds_at moment) IsPrintableVersion vs (versions_printable vs s r))
 
-pub versions_of_printable : (ident : List ℕ) (vs : List Version) → All HasSoundShape vs → All HasRightItem vs → All IsPrintableVersion (versions_of ident vs)
+pub versions_of_printable : (ident : List ℕ) (vs : List Version) → All HasSoundShape vs → All HasRightItem vs
+    → All IsPrintableVersion (versions_of ident vs)
 versions_of_printable ident vs s r = All-filter (has_ident ident) IsPrintableVersion vs (versions_printable vs s r)
 
 pub areas_at_printable : (moment : ℤ) (areas : List AreaVersion) → All HasSoundArea areas → All IsPrintableArea (areas_at moment areas)

@@ -17,7 +17,8 @@ use Rattle.moment_query.specs.Rows.{Row, Says, IsRow, IsEnd, IsEndDay, AreRows, 
 pub no_rows : (old : List ℕ) → PushesRows [] old old
 no_rows old = record { lines = []; say = tt; pushed = sym (append-nil old) }
 
-pub one_row : {row : Row} {old new : List ℕ} (line : List ℕ) → IsRow line row → new ≡ old ++ (line ++ 10 ∷ []) → PushesRows (row ∷ []) old new
+pub one_row : {row : Row} {old new : List ℕ} (line : List ℕ) → IsRow line row → new ≡ old ++ (line ++ 10 ∷ [])
+    → PushesRows (row ∷ []) old new
 one_row {old = old} line says e = record {
   lines = line ∷ [];
   say = (says, tt);
@@ -37,7 +38,8 @@ both_rows {a = a} {b = b} {x = x} p q = record {
   pushed =
       q.pushed
       ∙ (ap (λ (l : List ℕ). l ++ text_of q.lines) p.pushed
-      ∙ (append_assoc x (text_of p.lines) (text_of q.lines) ∙ ap (λ (l : List ℕ). x ++ l) (sym (flat_map-append (λ line. line ++ 10 ∷ []) p.lines q.lines))));
+      ∙ (append_assoc x (text_of p.lines) (text_of q.lines) ∙ ap (λ (l : List ℕ). x ++ l)
+      (sym (flat_map-append (λ line. line ++ 10 ∷ []) p.lines q.lines))));
 }
 
 say_rows : (lines : List (List ℕ)) (tokens : List Token) → AreLines printed lines tokens → AreRows lines (map Says tokens)
@@ -51,14 +53,18 @@ pub said : {tokens : List Token} {old new : List ℕ} → PushesLines tokens old
 said {tokens = tokens} p = record { lines = p.lines; say = say_rows p.lines tokens p.say; pushed = p.pushed }
 
 -- one more piece of a loop over references
-pub more_rows : {A : Type 0} {x y z : List ℕ} (f : A → List Row) (xs : List (Bor A)) (i : ℕ) (item : Bor A) → i < length xs → item ≡ get_or xs i item
-    → PushesRows (flat_map f (contents (take i xs))) x y → PushesRows (f item.now) y z → PushesRows (flat_map f (contents (take (i + 1) xs))) x z
+pub more_rows : {A : Type 0} {x y z : List ℕ} (f : A → List Row) (xs : List (Bor A)) (i : ℕ) (item : Bor A) → i < length xs
+    → item ≡ get_or xs i item
+    → PushesRows (flat_map f (contents (take i xs))) x y → PushesRows (f item.now) y z
+    → PushesRows (flat_map f (contents (take (i + 1) xs))) x z
 more_rows {A} {x = x} {z = z} f xs i item h is p q =
     let step : contents (take (i + 1) xs) ≡ contents (take i xs) ++ item.now ∷ [] =
-    ap contents (take_more xs i item h ∙ ap (λ (a : Bor A). take i xs ++ a ∷ []) (sym is)) ∙ map_push (λ (a : Bor A). a.now) (take i xs) item in
+    ap contents (take_more xs i item h ∙ ap (λ (a : Bor A). take i xs ++ a ∷ []) (sym is)) ∙ map_push (λ (a : Bor A). a.now) (take i xs)
+    item in
     let all : flat_map f (contents (take (i + 1) xs)) ≡ flat_map f (contents (take i xs)) ++ (f item.now ++ []) = ap (flat_map f) step
     ∙ flat_map-append f (contents (take i xs)) (item.now ∷ []) in
-    subst (λ (l : List Row). PushesRows l x z) (sym (all ∙ ap (λ (l : List Row). flat_map f (contents (take i xs)) ++ l) (append-nil (f item.now))))
+    subst (λ (l : List Row). PushesRows l x z)
+    (sym (all ∙ ap (λ (l : List Row). flat_map f (contents (take i xs)) ++ l) (append-nil (f item.now))))
     (both_rows p q)
 
 -- all pieces
@@ -67,7 +73,8 @@ pub all_rows : {A : Type 0} {x z : List ℕ} (f : A → List Row) (xs : List (Bo
 all_rows {A} {x = x} {z = z} f xs i h p = subst (λ (l : List (Bor A)). PushesRows (flat_map f (contents l)) x z) (take_all i xs h) p
 
 -- what all have that are referred to, each has
-pub at_ref : {A : Type 0} (P : A → Type 0) (xs : List (Bor A)) (i : ℕ) (item : Bor A) → i < length xs → item ≡ get_or xs i item → All P (contents xs)
+pub at_ref : {A : Type 0} (P : A → Type 0) (xs : List (Bor A)) (i : ℕ) (item : Bor A) → i < length xs → item ≡ get_or xs i item
+    → All P (contents xs)
     → P item.now
 at_ref {A} P xs i item h is all =
     subst P (get_or-map (λ (a : Bor A). a.now) xs i item item.now h ∙ ap (λ (a : Bor A). a.now) (sym is))
@@ -91,20 +98,25 @@ pub no_end_day : (day : Option ℤ) (old new : List ℕ) → day ≡ None → ne
 no_end_day day old new none e = (codes "-", rw none refl, e)
 
 -- one more piece of a list that is built over references
-pub more_of : {A B : Type 0} {old new : List B} (f : A → List B) (xs : List (Bor A)) (i : ℕ) (item : Bor A) → i < length xs → item ≡ get_or xs i item
+pub more_of : {A B : Type 0} {old new : List B} (f : A → List B) (xs : List (Bor A)) (i : ℕ) (item : Bor A) → i < length xs
+    → item ≡ get_or xs i item
     → old ≡ flat_map f (contents (take i xs)) → new ≡ old ++ f item.now → new ≡ flat_map f (contents (take (i + 1) xs))
 more_of {A} {B} f xs i item h is p q =
     let step : contents (take (i + 1) xs) ≡ contents (take i xs) ++ item.now ∷ [] =
-    ap contents (take_more xs i item h ∙ ap (λ (a : Bor A). take i xs ++ a ∷ []) (sym is)) ∙ map_push (λ (a : Bor A). a.now) (take i xs) item in
+    ap contents (take_more xs i item h ∙ ap (λ (a : Bor A). take i xs ++ a ∷ []) (sym is)) ∙ map_push (λ (a : Bor A). a.now) (take i xs)
+    item in
     let all : flat_map f (contents (take (i + 1) xs)) ≡ flat_map f (contents (take i xs)) ++ (f item.now ++ []) = ap (flat_map f) step
     ∙ flat_map-append f (contents (take i xs)) (item.now ∷ []) in
-    q ∙ (ap (λ (l : List B). l ++ f item.now) p ∙ sym (all ∙ ap (λ (l : List B). flat_map f (contents (take i xs)) ++ l) (append-nil (f item.now))))
+    q ∙ (ap (λ (l : List B). l ++ f item.now)
+    p ∙ sym (all ∙ ap (λ (l : List B). flat_map f (contents (take i xs)) ++ l) (append-nil (f item.now))))
 
 -- what is referred to at a place
 pub ref_at : {A : Type 0} (xs : List (Bor A)) (i : ℕ) (item : Bor A) → i < length xs → item ≡ get_or xs i item
     → (i < length (contents xs)) × (item.now ≡ get_or (contents xs) i item.now)
-ref_at {A} xs i item h is =
-    (omega (arith, h, length-map xs (λ (a : Bor A). a.now)), ap (λ (a : Bor A). a.now) is ∙ sym (get_or-map (λ (a : Bor A). a.now) xs i item item.now h))
+ref_at {A} xs i item h is = (
+  omega (arith, h, length-map xs (λ (a : Bor A). a.now)),
+  ap (λ (a : Bor A). a.now) is ∙ sym (get_or-map (λ (a : Bor A). a.now) xs i item item.now h),
+)
 
 pub refs_end : {A : Type 0} (xs : List (Bor A)) (i : ℕ) → length xs ≤ i → length (contents xs) ≤ i
 refs_end {A} xs i h = omega (arith, h, length-map xs (λ (a : Bor A). a.now))

@@ -11,12 +11,15 @@ use Rattle.moment_query.specs.Rows.{PushesRows}
 use Rattle.moment_query.specs.Queries.{area_rows, version_rows, areas_at, or_none, IsStateText, IsHistoryText}
 use Rattle.moment_query.proofs.RowLemmas.{one_row, both_rows}
 
-pub told_state : {x y z : List ℕ} (s : State) (moment : ℤ) (areas : List AreaVersion) (versions : List Version) → areas ≡ areas_at moment s.areas
+pub told_state : {x y z : List ℕ} (s : State) (moment : ℤ) (areas : List AreaVersion) (versions : List Version)
+    → areas ≡ areas_at moment s.areas
     → versions ≡ versions_at moment s.versions → x ≡ []
     → PushesRows (flat_map area_rows areas) x y → PushesRows (flat_map version_rows versions) y z → IsStateText s moment z
 unfolding IsStateText
 told_state {x} {y} {z} s moment areas versions a v e p q =
-    subst (λ (found : List AreaVersion). PushesRows (flat_map area_rows found ++ flat_map version_rows (versions_at moment s.versions)) [] z) a
+    subst
+    (λ (found : List AreaVersion). PushesRows (flat_map area_rows found ++ flat_map version_rows (versions_at moment s.versions)) [] z)
+    a
     (subst (λ (vs : List Version). PushesRows (flat_map area_rows areas ++ flat_map version_rows vs) [] z) v
     (subst (λ (old : List ℕ). PushesRows (flat_map area_rows areas ++ flat_map version_rows versions) old z) e (both_rows p q)))
 

@@ -29,7 +29,8 @@ IsEndDay field (Some day) = IsDay field day
 abbrev pub IsRow : List ℕ → Row → Type 0
 IsRow line (AreaOf holder since until) = (from : List ℕ) × (to : List ℕ) × IsPrintedMoment from since × IsEnd to until
     × (line ≡ codes "GEBIED" ++ spaced (holder ∷ from ∷ to ∷ []))
-IsRow line (ObjectOf holder since until end_day) = (from : List ℕ) × (to : List ℕ) × (day : List ℕ) × IsPrintedMoment from since × IsEnd to until
+IsRow line (ObjectOf holder since until end_day)
+    = (from : List ℕ) × (to : List ℕ) × (day : List ℕ) × IsPrintedMoment from since × IsEnd to until
     × IsEndDay day end_day
     × (line ≡ codes "OBJECT" ++ spaced (holder ∷ from ∷ to ∷ day ∷ []))
 IsRow line (Says token) = IsLine printed line token

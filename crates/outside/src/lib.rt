@@ -25,6 +25,3 @@ pub use fault_free::FaultFree;
 pub use mem_outside::MemOutside;
 pub use real_outside::RealOutside;
 pub use traits::Outside;
-
-#[cfg(test)]
-mod tests;

@@ -18,26 +18,32 @@ module _ (s : State) (moment : ℤ) (p : Point) (g : Good s) (free : (h : List �
   off_area h =
       let parts = all_edges (ground_of (parts_at moment h s.versions)) in
       let turned = map reversed (all_edges (area_at moment h s.areas)) in
-      sym (off-map_reversed p (all_edges (area_at moment h s.areas))) ∙ (and_parts (off p parts) (off p turned) (sym (off-append p parts turned) ∙ free h)).1
+      sym (off-map_reversed p (all_edges (area_at moment h s.areas))) ∙ (and_parts (off p parts) (off p turned)
+      (sym (off-append p parts turned) ∙ free h)).1
 
-  pub one_area : (holder other : List ℕ) → covers_any p (area_at moment holder s.areas) ≡ true → covers_any p (area_at moment other s.areas) ≡ true → holder ≡ other
+  pub one_area : (holder other : List ℕ) → covers_any p (area_at moment holder s.areas) ≡ true
+      → covers_any p (area_at moment other s.areas) ≡ true → holder ≡ other
   one_area holder other a b = elim (cases_Bool (bytes_eq holder other)) [
     | inl t ↦ (bytes_eq-Decides holder other).0 t
     | inr t ↦ absurd (both_ways (covers_any p (area_at moment holder s.areas) && covers_any p (area_at moment other s.areas))
-        (g.apart moment holder other (λ e. both_ways (bytes_eq holder other) t ((bytes_eq-Decides holder other).1 e)) p (off_area holder) (off_area other))
+        (g.apart moment holder other (λ e. both_ways (bytes_eq holder other) t ((bytes_eq-Decides holder other).1 e)) p (off_area holder)
+        (off_area other))
         (and_from (covers_any p (area_at moment holder s.areas)) (covers_any p (area_at moment other s.areas)) a b))
   ]
 
   count : (h : List ℕ) → cover_count p (ground_of (parts_at moment h s.versions)) ≡ cond (covers_any p (area_at moment h s.areas)) 1 0
   count h = (g.maps moment h).tiled p (free h)
 
-  pub one_part : (holder : List ℕ) → covers_any p (area_at moment holder s.areas) ≡ true → cover_count p (ground_of (parts_at moment holder s.versions)) ≡ 1
+  pub one_part : (holder : List ℕ) → covers_any p (area_at moment holder s.areas) ≡ true
+      → cover_count p (ground_of (parts_at moment holder s.versions)) ≡ 1
   one_part holder a = count holder ∙ ap (λ (b : Bool). cond b 1 0) a
 
-  pub none_outside : (holder : List ℕ) → covers_any p (area_at moment holder s.areas) ≡ false → cover_count p (ground_of (parts_at moment holder s.versions)) ≡ 0
+  pub none_outside : (holder : List ℕ) → covers_any p (area_at moment holder s.areas) ≡ false
+      → cover_count p (ground_of (parts_at moment holder s.versions)) ≡ 0
   none_outside holder a = count holder ∙ ap (λ (b : Bool). cond b 1 0) a
 
-  pub none_of_others : (holder other : List ℕ) → covers_any p (area_at moment holder s.areas) ≡ true → other ≢ holder → cover_count p (ground_of (parts_at moment other s.versions)) ≡ 0
+  pub none_of_others : (holder other : List ℕ) → covers_any p (area_at moment holder s.areas) ≡ true → other ≢ holder
+      → cover_count p (ground_of (parts_at moment other s.versions)) ≡ 0
   none_of_others holder other a d = elim (cases_Bool (covers_any p (area_at moment other s.areas))) [
     | inl t ↦ absurd (d (one_area other holder t a))
     | inr t ↦ none_outside other t

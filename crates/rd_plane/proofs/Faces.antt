@@ -27,7 +27,8 @@ pub not_against : (p : Point) (e f : Segment) → pos 0 <ℤ run e f → is_agai
 not_against p e f h = grind (arith, linear)
 
 -- ---- points near p that are not on e's line are off the edges
-pub off_soon : (p : Point) (e : Segment) (es : List Segment) → AllByRecursion (Good p e) es → Soon p (λ r. (side r e ≡ pos 0 → ⊥) → off r es ≡ true)
+pub off_soon : (p : Point) (e : Segment) (es : List Segment) → AllByRecursion (Good p e) es
+    → Soon p (λ r. (side r e ≡ pos 0 → ⊥) → off r es ≡ true)
 unfolding off
 off_soon p e [] h = always p (λ r n. refl)
 off_soon p e (f ∷ fs) h = soon_so p (both_soon p (one h.0) (off_soon p e fs h.1)) (λ r t n. rw (t.0 n, t.1 n) refl)
@@ -54,10 +55,12 @@ pub record Parted (c : ℤ) (e : Segment) (es : List Segment) (r : Point) : Type
   pub right : side r e <ℤ pos 0 → c +ℤ wind r es ≡ pos 0
 
 -- e is the one edge of the face through p
-pub own_good : (c : ℤ) (es : List Segment) → IsFace c es → (e : Segment) → Contains es e → (p : Point) → on p e ≡ true → is_end p e ≡ false → (g : Segment) → Contains es g → Good p e g
+pub own_good : (c : ℤ) (es : List Segment) → IsFace c es → (e : Segment) → Contains es e → (p : Point) → on p e ≡ true → is_end p e ≡ false
+    → (g : Segment) → Contains es g → Good p e g
 own_good c es k e ce p o n g cg = record {
   passes = record {
-    along = λ og. let q = k.meets e g p ce cg o og n in (ap (λ f. side (point_of f.a) e) q ∙ side-own_a e, ap (λ f. side (point_of f.b) e) q ∙ side-own_b e);
+    along = λ og. let q = k.meets e g p ce cg o og n
+        in (ap (λ f. side (point_of f.a) e) q ∙ side-own_a e, ap (λ f. side (point_of f.b) e) q ∙ side-own_b e);
     no_end = elim (cases_Bool (is_end p g)) [
       | inr t ↦ t
       | inl t ↦ absurd (both_ways (is_end p e) n (ap (is_end p) (sym (k.meets e g p ce cg o (end_on p g t) n)) ∙ t))
@@ -66,13 +69,15 @@ own_good c es k e ce p o n g cg = record {
   same = λ og. inl (k.meets e g p ce cg o og n);
 }
 
-not_back : (c : ℤ) (es : List Segment) → IsFace c es → (e : Segment) → Contains es e → e.a ≢ e.b → (p : Point) → on p e ≡ true → is_end p e ≡ false → (g : Segment) → Contains es g → is_against p e g ≡ false
+not_back : (c : ℤ) (es : List Segment) → IsFace c es → (e : Segment) → Contains es e → e.a ≢ e.b → (p : Point) → on p e ≡ true
+    → is_end p e ≡ false → (g : Segment) → Contains es g → is_against p e g ≡ false
 not_back c es k e ce d p o n g cg = elim (cases_Bool (on p g)) [
   | inl t ↦ not_against p e g (rw (k.meets e g p ce cg o t n) (run_self e d))
   | inr t ↦ let z : is_against p e g ≡ false = rw t refl in z
 ]
 
-pub parted : (c : ℤ) (es : List Segment) → IsFace c es → (e : Segment) → Contains es e → e.a ≢ e.b → (p : Point) → on p e ≡ true → is_end p e ≡ false → Soon p (Parted c e es)
+pub parted : (c : ℤ) (es : List Segment) → IsFace c es → (e : Segment) → Contains es e → e.a ≢ e.b → (p : Point) → on p e ≡ true
+    → is_end p e ≡ false → Soon p (Parted c e es)
 parted c es k e ce d p o n = record {
   m = j.m;
   some = j.some;
@@ -86,13 +91,15 @@ parted c es k e ce d p o n = record {
     goods = recursion_from_All (Good p e) es (λ i g h. own_good c es k e ce p o n (slice_index_or es i g) (Contains-get_or es i g h))
 
     j : Jump p e es
-    j = jump p e es d ((On-from_on p e o).straight) k.balance (All-from_recursion (PassesAlong p e) es (all_so (Good p e) (PassesAlong p e) es (λ f g. g.passes) goods))
+    j = jump p e es d ((On-from_on p e o).straight) k.balance
+        (All-from_recursion (PassesAlong p e) es (all_so (Good p e) (PassesAlong p e) es (λ f g. g.passes) goods))
 
     along : 0 < count_by (is_along p e) es
     along = some_pass (is_along p e) es e ce (yes_along p e e o (run_self e d))
 
     against : count_by (is_against p e) es ≡ 0
-    against = none_pass (is_against p e) es (recursion_from_All (λ g. is_against p e g ≡ false) es (λ i g h. not_back c es k e ce d p o n (slice_index_or es i g) (Contains-get_or es i g h)))
+    against = none_pass (is_against p e) es (recursion_from_All (λ g. is_against p e g ≡ false) es
+        (λ i g h. not_back c es k e ce d p o n (slice_index_or es i g) (Contains-get_or es i g h)))
 
     close : Soon p (λ r. (side r e ≡ pos 0 → ⊥) → off r es ≡ true)
     close = off_soon p e es goods
@@ -107,10 +114,12 @@ parted c es k e ce d p o n = record {
     at_right = omega (arith, linear, j.at_right points.right (Near-left j.m close.m p points.right points.near_right) points.is_right)
 
     left_wind : (c +ℤ wind points.left es ≡ pos 0) ⊎ (c +ℤ wind points.left es ≡ pos 1)
-    left_wind = k.winds points.left (close.holds points.left (Near-right j.m close.m p points.left points.near_left) (λ z. omega (arith, linear, z, points.is_left)))
+    left_wind = k.winds points.left
+        (close.holds points.left (Near-right j.m close.m p points.left points.near_left) (λ z. omega (arith, linear, z, points.is_left)))
 
     right_wind : (c +ℤ wind points.right es ≡ pos 0) ⊎ (c +ℤ wind points.right es ≡ pos 1)
-    right_wind = k.winds points.right (close.holds points.right (Near-right j.m close.m p points.right points.near_right) (λ z. omega (arith, linear, z, points.is_right)))
+    right_wind = k.winds points.right (close.holds points.right (Near-right j.m close.m p points.right points.near_right)
+        (λ z. omega (arith, linear, z, points.is_right)))
 
     settled : (c +ℤ j.left ≡ pos 1) × (c +ℤ j.right ≡ pos 0)
     settled = elim left_wind [

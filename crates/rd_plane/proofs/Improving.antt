@@ -21,7 +21,8 @@ by_ordering Equal f g h = g refl
 by_ordering Greater f g h = h refl
 
 -- where y is not below x, and z not below y, z is not below x
-not_above : {A : Type 0} {order : A → A → Ordering} → IsTotalOrder order → (x y z : A) → order y x ≢ Less → order z y ≢ Less → order z x ≢ Less
+not_above : {A : Type 0} {order : A → A → Ordering} → IsTotalOrder order → (x y z : A) → order y x ≢ Less → order z y ≢ Less
+    → order z x ≢ Less
 not_above {A} {order} total x y z h k l = by_ordering (order x y)
     (λ o. k (total.trans z x y l o))
     (λ o. k (sym (alike_right total x y z o) ∙ l))
@@ -41,7 +42,8 @@ abbrev pub Either : {A : Type 0} → (A → Type 0) → (A → Type 0) → A →
 Either T U x = T x ⊎ U x
 
 -- the least of two searches in a row
-pub both : {A : Type 0} {order : A → A → Ordering} {T U : A → Type 0} → IsTotalOrder order → (a b c : Option A) → Improves order T a b → Improves order U b c → Improves order (Either T U) a c
+pub both : {A : Type 0} {order : A → A → Ordering} {T U : A → Type 0} → IsTotalOrder order → (a b c : Option A) → Improves order T a b
+    → Improves order U b c → Improves order (Either T U) a c
 both total a b c f g = record {
   came = elim g.came [
     | inr k ↦ inr (k.0, inr k.1, k.2)
@@ -55,7 +57,8 @@ both total a b c f g = record {
 }
 
 -- the search said in other words
-pub same : {A : Type 0} {order : A → A → Ordering} {T U : A → Type 0} (a b : Option A) → ((x : A) → T x → U x) → ((x : A) → U x → T x) → Improves order T a b → Improves order U a b
+pub same : {A : Type 0} {order : A → A → Ordering} {T U : A → Type 0} (a b : Option A) → ((x : A) → T x → U x) → ((x : A) → U x → T x)
+    → Improves order T a b → Improves order U a b
 same a b f g i = record {
   came = elim i.came [ inl p ↦ inl p | inr k ↦ inr (k.0, f k.0 k.1, k.2) ];
   under = λ x u. i.under x (g x u);
@@ -63,11 +66,13 @@ same a b f g i = record {
 }
 
 -- a search that finds nothing
-pub none : {A : Type 0} {order : A → A → Ordering} {T : A → Type 0} → IsTotalOrder order → (a : Option A) → ((x : A) → T x → ⊥) → Improves order T a a
+pub none : {A : Type 0} {order : A → A → Ordering} {T : A → Type 0} → IsTotalOrder order → (a : Option A) → ((x : A) → T x → ⊥)
+    → Improves order T a a
 none total a n = record { came = inl refl; under = λ x t. absurd (n x t); kept = λ b q. (b, q, not_itself total b) }
 
 -- ---- one thing, of which alone T holds
-pub first : {A : Type 0} {order : A → A → Ordering} {T : A → Type 0} → IsTotalOrder order → (p : A) → T p → ((x : A) → T x → x ≡ p) → Improves order T None (Some p)
+pub first : {A : Type 0} {order : A → A → Ordering} {T : A → Type 0} → IsTotalOrder order → (p : A) → T p → ((x : A) → T x → x ≡ p)
+    → Improves order T None (Some p)
 first {A} {order} total p t o = record {
   came = inr (p, t, refl);
   under = λ x s. (p, refl, subst (λ y. order y p ≢ Less) (sym (o x s)) (not_itself total p));
@@ -75,7 +80,8 @@ first {A} {order} total p t o = record {
 }
 
 -- the lesser of what was found and of that thing
-pub lesser : {A : Type 0} {order : A → A → Ordering} {T : A → Type 0} → IsTotalOrder order → (a : Option A) (found r p : A) → a ≡ Some found → T p → ((x : A) → T x → x ≡ p)
+pub lesser : {A : Type 0} {order : A → A → Ordering} {T : A → Type 0} → IsTotalOrder order → (a : Option A) (found r p : A) → a ≡ Some found
+    → T p → ((x : A) → T x → x ≡ p)
     → ((r ≡ found) × (order found p ≡ Less)) ⊎ ((r ≡ p) × (order found p ≢ Less)) → Improves order T a (Some r)
 lesser {A} {order} {T} total a found r p q t o c = elim c [
   | inl k ↦ record {
@@ -83,9 +89,15 @@ lesser {A} {order} {T} total a found r p q t o c = elim c [
     under = λ x s. (
       r,
       refl,
-      subst (λ y. order x y ≢ Less) (sym k.0) (subst (λ y. order y found ≢ Less) (sym (o x s)) (λ l. not_itself total found (total.trans found p found k.1 l))),
+      subst (λ y. order x y ≢ Less) (sym k.0)
+          (subst (λ y. order y found ≢ Less) (sym (o x s)) (λ l. not_itself total found (total.trans found p found k.1 l))),
     );
-    kept = λ b e. (r, refl, subst (λ y. order b y ≢ Less) (sym k.0) (subst (λ y. order y found ≢ Less) (same_some found b (sym q ∙ e)) (not_itself total found)));
+    kept = λ b e. (
+      r,
+      refl,
+      subst (λ y. order b y ≢ Less) (sym k.0)
+          (subst (λ y. order y found ≢ Less) (same_some found b (sym q ∙ e)) (not_itself total found)),
+    );
   }
   | inr k ↦ record {
     came = inr (p, t, ap Some k.0);
@@ -95,7 +107,8 @@ lesser {A} {order} {T} total a found r p q t o c = elim c [
 ]
 
 -- ---- the whole search
-pub least_of : {A : Type 0} {order : A → A → Ordering} {T : A → Type 0} (new : Option A) → Improves order T None new → MatchOption new ((x : A) → T x → ⊥) (IsLeast order T)
+pub least_of : {A : Type 0} {order : A → A → Ordering} {T : A → Type 0} (new : Option A) → Improves order T None new
+    → MatchOption new ((x : A) → T x → ⊥) (IsLeast order T)
 least_of None i = λ x t. let k = i.under x t in no k.0 k.1
   where
     no : {A : Type 0} (r : A) → None ≡ Some r → ⊥

@@ -39,9 +39,17 @@ pub yes_along : (p : Point) (e f : Segment) → on p f ≡ true → pos 0 <ℤ r
 yes_along p e f o h = grind (arith, linear)
 
 -- those along and those against are through p
-pub through_count : (p : Point) (e : Segment) (es : List Segment) → count_by (is_along p e) es + count_by (is_against p e) es ≤ count_by (on p) es
+pub through_count : (p : Point) (e : Segment) (es : List Segment)
+    → count_by (is_along p e) es + count_by (is_against p e) es ≤ count_by (on p) es
 through_count p e [] = omega arith
-through_count p e (f ∷ fs) = omega (arith, sum_by-cons (λ f. one_if (is_along p e f)) f fs, sum_by-cons (λ f. one_if (is_against p e f)) f fs, sum_by-cons (λ f. one_if (on p f)) f fs, through_count p e fs, here p e f)
+through_count p e (f ∷ fs) = omega (
+  arith,
+  sum_by-cons (λ f. one_if (is_along p e f)) f fs,
+  sum_by-cons (λ f. one_if (is_against p e f)) f fs,
+  sum_by-cons (λ f. one_if (on p f)) f fs,
+  through_count p e fs,
+  here p e f,
+)
   where
     here : (p : Point) (e f : Segment) → one_if (is_along p e f) + one_if (is_against p e f) ≤ one_if (on p f)
     here p e f = grind (arith, linear)
@@ -68,18 +76,21 @@ first_along : (first u : Vertex) (ws : List Vertex) (d : Segment) → (slice_ind
 first_along first u [] d = refl
 first_along first u (w ∷ ws) d = refl
 
-last_along : (first u : Vertex) (ws : List Vertex) (i : ℕ) (d : Segment) → suc i ≡ length (edges_along first u ws) → (slice_index_or (edges_along first u ws) i d).b ≡ first
+last_along : (first u : Vertex) (ws : List Vertex) (i : ℕ) (d : Segment) → suc i ≡ length (edges_along first u ws)
+    → (slice_index_or (edges_along first u ws) i d).b ≡ first
 last_along first u [] zero d h = refl
 last_along first u [] (suc i) d h = absurd (omega arith)
 last_along first u (w ∷ []) zero d h = absurd (omega arith)
 last_along first u (w ∷ (x ∷ xs)) zero d h = absurd (omega arith)
 last_along first u (w ∷ ws) (suc i) d h = last_along first w ws i d (omega arith)
 
-pub next_ring : (ring : List Vertex) (i j : ℕ) (d : Segment) → j ≡ suc i → j < length (ring_edges ring) → (slice_index_or (ring_edges ring) i d).b ≡ (slice_index_or (ring_edges ring) j d).a
+pub next_ring : (ring : List Vertex) (i j : ℕ) (d : Segment) → j ≡ suc i → j < length (ring_edges ring)
+    → (slice_index_or (ring_edges ring) i d).b ≡ (slice_index_or (ring_edges ring) j d).a
 next_ring [] i j d e h = absurd (omega arith)
 next_ring (v ∷ vs) i j d e h = rw e (next_along v v vs i d (omega arith))
 
-pub last_ring : (ring : List Vertex) (i j : ℕ) (d : Segment) → i ≡ 0 → suc j ≡ length (ring_edges ring) → (slice_index_or (ring_edges ring) i d).a ≡ (slice_index_or (ring_edges ring) j d).b
+pub last_ring : (ring : List Vertex) (i j : ℕ) (d : Segment) → i ≡ 0 → suc j ≡ length (ring_edges ring)
+    → (slice_index_or (ring_edges ring) i d).a ≡ (slice_index_or (ring_edges ring) j d).b
 last_ring [] i j d e h = absurd (omega arith)
 last_ring (v ∷ vs) i j d e h = rw e (first_along v v vs d ∙ sym (last_along v v vs j d h))
 
@@ -91,10 +102,13 @@ own_ring ring m e g p ce cg oe og n = elim (cases_lt ce.0 cg.0) [
   ]
   | inr same_or_more ↦ elim (cases_lt cg.0 ce.0) [
     | inl less ↦ elim (m cg.0 ce.0 e p less ce.1 on_g on_e) [
-      | inl t ↦ absurd (no_a p e n (ap (λ (f : Segment). is_at p f.a) (sym ce.2) ∙ (ap (is_at p) (sym (next_ring ring cg.0 ce.0 e (omega (arith, t.0)) ce.1)) ∙ t.1)))
-      | inr t ↦ absurd (no_b p e n (ap (λ (f : Segment). is_at p f.b) (sym ce.2) ∙ (ap (is_at p) (sym (last_ring ring cg.0 ce.0 e t.0 (omega (arith, t.1)))) ∙ t.2)))
+      | inl t ↦ absurd (no_a p e n (ap (λ (f : Segment). is_at p f.a)
+          (sym ce.2) ∙ (ap (is_at p) (sym (next_ring ring cg.0 ce.0 e (omega (arith, t.0)) ce.1)) ∙ t.1)))
+      | inr t ↦ absurd (no_b p e n (ap (λ (f : Segment). is_at p f.b)
+          (sym ce.2) ∙ (ap (is_at p) (sym (last_ring ring cg.0 ce.0 e t.0 (omega (arith, t.1)))) ∙ t.2)))
     ]
-    | inr other ↦ let q : cg.0 ≡ ce.0 = omega (arith, same_or_more, other) in sym is_g ∙ (ap (λ k. slice_index_or (ring_edges ring) k e) q ∙ ce.2)
+    | inr other ↦ let q : cg.0 ≡ ce.0 = omega (arith, same_or_more, other)
+        in sym is_g ∙ (ap (λ k. slice_index_or (ring_edges ring) k e) q ∙ ce.2)
   ]
 ]
   where

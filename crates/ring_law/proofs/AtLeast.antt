@@ -50,12 +50,15 @@ not_itself v q = other (vertex_cmp v v) q (vertex_cmp-total.antisymm v v)
     other Greater q e = less_not_greater (sym q)
 
 -- the corner at k is less than the least before it
-pub lesser_then : (ring : List Vertex) (i k : ℕ) (x y : Vertex) → i < k → k < length ring → x ≡ slice_index_or ring k x → y ≡ slice_index_or ring i y → vertex_cmp x y ≡ Less → IsLeastUpTo ring i k → IsLeastUpTo ring k (k + 1)
+pub lesser_then : (ring : List Vertex) (i k : ℕ) (x y : Vertex) → i < k → k < length ring → x ≡ slice_index_or ring k x
+    → y ≡ slice_index_or ring i y → vertex_cmp x y ≡ Less → IsLeastUpTo ring i k → IsLeastUpTo ring k (k + 1)
 lesser_then ring i k x y l h qx qy c p = record {
   inside = omega arith;
   none_less = λ j d b e. elim (cases_lt j k) [
-    | inl a ↦ p.none_less j d a (vertex_cmp-total.trans (slice_index_or ring j d) (slice_index_or ring k d) (slice_index_or ring i d) e (less d))
-    | inr a ↦ let s : j ≡ k = omega (arith, a, b) in not_itself (slice_index_or ring k d) (subst (λ n. vertex_cmp (slice_index_or ring n d) (slice_index_or ring k d) ≡ Less) s e)
+    | inl a ↦ p.none_less j d a
+        (vertex_cmp-total.trans (slice_index_or ring j d) (slice_index_or ring k d) (slice_index_or ring i d) e (less d))
+    | inr a ↦ let s : j ≡ k = omega (arith, a, b) in not_itself (slice_index_or ring k d)
+        (subst (λ n. vertex_cmp (slice_index_or ring n d) (slice_index_or ring k d) ≡ Less) s e)
   ];
 }
   where
@@ -69,12 +72,14 @@ lesser_then ring i k x y l h qx qy c p = record {
     less d = rw (at_x d, at_y d) c
 
 -- it is not
-pub lesser_else : (ring : List Vertex) (i k : ℕ) (x y : Vertex) → i < k → k < length ring → x ≡ slice_index_or ring k x → y ≡ slice_index_or ring i y → vertex_cmp x y ≢ Less → IsLeastUpTo ring i k → IsLeastUpTo ring i (k + 1)
+pub lesser_else : (ring : List Vertex) (i k : ℕ) (x y : Vertex) → i < k → k < length ring → x ≡ slice_index_or ring k x
+    → y ≡ slice_index_or ring i y → vertex_cmp x y ≢ Less → IsLeastUpTo ring i k → IsLeastUpTo ring i (k + 1)
 lesser_else ring i k x y l h qx qy c p = record {
   inside = omega (arith, l);
   none_less = λ j d b e. elim (cases_lt j k) [
     | inl a ↦ p.none_less j d a e
-    | inr a ↦ let s : j ≡ k = omega (arith, a, b) in c (sym (not_less d) ∙ subst (λ n. vertex_cmp (slice_index_or ring n d) (slice_index_or ring i d) ≡ Less) s e)
+    | inr a ↦ let s : j ≡ k = omega (arith, a, b) in c
+        (sym (not_less d) ∙ subst (λ n. vertex_cmp (slice_index_or ring n d) (slice_index_or ring i d) ≡ Less) s e)
   ];
 }
   where
@@ -82,13 +87,23 @@ lesser_else ring i k x y l h qx qy c p = record {
     not_less d = rw (other_default ring k d x h ∙ sym qx, other_default ring i d y (omega (arith, l, h)) ∙ sym qy) refl
 
 pub first_least : (ring : List Vertex) → IsLeastUpTo ring 0 1
-first_least ring = record { inside = omega arith; none_less = λ k d l e. let s : k ≡ 0 = omega (arith, l) in not_itself (slice_index_or ring 0 d) (subst (λ n. vertex_cmp (slice_index_or ring n d) (slice_index_or ring 0 d) ≡ Less) s e) }
+first_least ring = record {
+  inside = omega arith;
+  none_less = λ k d l e. let s : k ≡ 0 = omega (arith, l) in not_itself (slice_index_or ring 0 d)
+      (subst (λ n. vertex_cmp (slice_index_or ring n d) (slice_index_or ring 0 d) ≡ Less) s e);
+}
 
 -- the edges at the least corner
-pub at_least_is : (ring : List Vertex) (i j : ℕ) (e f : Segment) → i < length ring → e ≡ slice_index_or (ring_edges ring) i e → f ≡ slice_index_or (ring_edges ring) j f → ((j ≡ i + 1) ⊎ ((j ≡ 0) × (i + 1 ≡ length ring))) → IsLeastUpTo ring j (length ring) →
+pub at_least_is : (ring : List Vertex) (i j : ℕ) (e f : Segment) → i < length ring → e ≡ slice_index_or (ring_edges ring) i e
+    → f ≡ slice_index_or (ring_edges ring) j f → ((j ≡ i + 1) ⊎ ((j ≡ 0) × (i + 1 ≡ length ring))) → IsLeastUpTo ring j (length ring) →
     IsAtLeast ring e.a f.a f.b
 at_least_is ring i j e f h qe qf s p = record {
-  comes = (i, omega (arith, h, length-ring ring), other_default (ring_edges ring) i _ e (omega (arith, h, length-ring ring)) ∙ (sym qe ∙ same_edge e (record { a = e.a; b = f.a }) refl joined));
+  comes = (
+    i,
+    omega (arith, h, length-ring ring),
+    other_default (ring_edges ring) i _ e
+        (omega (arith, h, length-ring ring)) ∙ (sym qe ∙ same_edge e (record { a = e.a; b = f.a }) refl joined),
+  );
   goes = (j, omega (arith, p.inside, length-ring ring), sym qf);
   none_less = λ k d l. subst (λ v. vertex_cmp (slice_index_or ring k d) v ≢ Less) (at_f d) (p.none_less k d l);
 }
@@ -100,14 +115,17 @@ at_least_is ring i j e f h qe qf s p = record {
     joined = ap (λ (g : Segment). g.b) qe ∙ (elim s [
       | inl q ↦ next_ring ring i j e (omega (arith, q)) (omega (arith, p.inside, length-ring ring))
       | inr q ↦ sym (last_ring ring j i e q.0 (omega (arith, q.1, length-ring ring)))
-    ] ∙ (ap (λ (g : Segment). g.a) (other_default (ring_edges ring) j e f (omega (arith, p.inside, length-ring ring))) ∙ sym (ap (λ (g : Segment). g.a) qf)))
+    ] ∙ (ap (λ (g : Segment). g.a)
+        (other_default (ring_edges ring) j e f (omega (arith, p.inside, length-ring ring))) ∙ sym (ap (λ (g : Segment). g.a) qf)))
 
 -- the same of equal edges
 pub at_same : (ring : List Vertex) (e f x y : Segment) → x ≡ e → y ≡ f → IsAtLeast ring e.a f.a f.b → IsAtLeast ring x.a y.a y.b
 at_same ring e f x y q r h = rw (q, r) h
 
 -- what `orient` answers
-pub turn_from : (u v w : Vertex) (t : Turn) → (t ≡ Left) ↔ (pos 0 <ℤ side (point_of w) (record { a = u; b = v })) → (t ≡ Straight) ↔ (side (point_of w) (record { a = u; b = v }) ≡ pos 0) → (t ≡ Right) ↔ (side (point_of w) (record { a = u; b = v }) <ℤ pos 0) → IsTurn u v w t
+pub turn_from : (u v w : Vertex) (t : Turn) → (t ≡ Left) ↔ (pos 0 <ℤ side (point_of w) (record { a = u; b = v })) → (t ≡ Straight)
+    ↔ (side (point_of w) (record { a = u; b = v }) ≡ pos 0) → (t ≡ Right) ↔ (side (point_of w) (record { a = u; b = v }) <ℤ pos 0)
+    → IsTurn u v w t
 turn_from u v w Left l s r = l.0 refl
 turn_from u v w Straight l s r = s.0 refl
 turn_from u v w Right l s r = r.0 refl
@@ -132,25 +150,30 @@ one_least m n h k = elim h [
 ]
 
 pub one_turn : (ring : List Vertex) (s t : Turn) → HasCorners ring → TurnsAtLeast ring s → TurnsAtLeast ring t → s ≡ t
-one_turn ring s t c h k = turn_one h.before h.least h.after s t h.is (at_same_turn k.before h.before k.least h.least k.after h.after t (ap (λ (e : Segment). e.a) comes) (sym least) (ap (λ (e : Segment). e.b) goes) k.is)
+one_turn ring s t c h k = turn_one h.before h.least h.after s t h.is (at_same_turn k.before h.before k.least h.least k.after h.after t
+    (ap (λ (e : Segment). e.a) comes) (sym least) (ap (λ (e : Segment). e.b) goes) k.is)
   where
     least : h.least ≡ k.least
-    least = one_least h.least k.least (none_before ring h.least h.at.none_less (record { a = k.least; b = k.after }) k.at.goes).0 (none_before ring k.least k.at.none_less (record { a = h.least; b = h.after }) h.at.goes).0
+    least = one_least h.least k.least (none_before ring h.least h.at.none_less (record { a = k.least; b = k.after }) k.at.goes).0
+        (none_before ring k.least k.at.none_less (record { a = h.least; b = h.after }) h.at.goes).0
 
     goes : ◌≡◌ {A = Segment} (record { a = k.least; b = k.after }) (record { a = h.least; b = h.after })
     goes = same_going ring c (record { a = h.least; b = h.after }) (record { a = k.least; b = k.after }) h.at.goes k.at.goes least
 
     comes : ◌≡◌ {A = Segment} (record { a = k.before; b = k.least }) (record { a = h.before; b = h.least })
-    comes = same_coming ring c (record { a = h.before; b = h.least }) (record { a = k.before; b = k.least }) (record { a = h.least; b = h.after }) h.at.comes k.at.comes h.at.goes refl (sym least)
+    comes = same_coming ring c (record { a = h.before; b = h.least }) (record { a = k.before; b = k.least })
+        (record { a = h.least; b = h.after }) h.at.comes k.at.comes h.at.goes refl (sym least)
 
     at_same_turn : (u x v y w z : Vertex) (t : Turn) → u ≡ x → v ≡ y → w ≡ z → IsTurn u v w t → IsTurn x y z t
     at_same_turn u x v y w z t p q r i = rw (← p, ← q, ← r) i
 
 -- ---- which way the ring winds
-pub runs_so : (ring : List Vertex) → HasCorners ring → MeetsInTurn ring → TurnsAtLeast ring Left → WindsBy (pos 1) (ring_edges ring) × WindsSome (pos 1) (ring_edges ring)
+pub runs_so : (ring : List Vertex) → HasCorners ring → MeetsInTurn ring → TurnsAtLeast ring Left
+    → WindsBy (pos 1) (ring_edges ring) × WindsSome (pos 1) (ring_edges ring)
 runs_so ring c m t = (left_winds ring t.before t.least t.after c m t.at t.is, left_some ring t.before t.least t.after c m t.at t.is)
 
-pub runs_back : (ring : List Vertex) → HasCorners ring → MeetsInTurn ring → TurnsAtLeast ring Right → WindsBy (negsuc 0) (ring_edges ring) × WindsSome (negsuc 0) (ring_edges ring)
+pub runs_back : (ring : List Vertex) → HasCorners ring → MeetsInTurn ring → TurnsAtLeast ring Right
+    → WindsBy (negsuc 0) (ring_edges ring) × WindsSome (negsuc 0) (ring_edges ring)
 runs_back ring c m t = (right_winds ring t.before t.least t.after c m t.at t.is, right_some ring t.before t.least t.after c m t.at t.is)
 
 pub never_on : {P : Type 0} (ring : List Vertex) → HasCorners ring → MeetsInTurn ring → TurnsAtLeast ring Straight → P

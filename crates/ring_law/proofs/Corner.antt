@@ -26,14 +26,16 @@ use Rattle.ring_law.proofs.Straight.{goes_on, tied, run_to, length_of}
 abbrev Else : Segment → Segment → Point → Segment → Type 0
 Else e f r g = ((g ≡ e) ⊎ (g ≡ f)) ⊎ (on r g ≡ false)
 
-near_others : (es : List Segment) → AreRingEdges es → (e f : Segment) → Contains es e → Contains es f → e.b ≡ f.a → (gs : List Segment) → ((g : Segment) → Contains gs g → Contains es g) → Soon (point_of e.b) (λ r. AllByRecursion (Else e f r) gs)
+near_others : (es : List Segment) → AreRingEdges es → (e f : Segment) → Contains es e → Contains es f → e.b ≡ f.a → (gs : List Segment)
+    → ((g : Segment) → Contains gs g → Contains es g) → Soon (point_of e.b) (λ r. AllByRecursion (Else e f r) gs)
 near_others es k e f ce cf n [] c = always (point_of e.b) (λ r. tt)
 near_others es k e f ce cf n (g ∷ gs) c = both_soon (point_of e.b) (elim (cases_Bool (on (point_of e.b) g)) [
   | inl t ↦ always (point_of e.b) (λ r. inl (k.corner e f g ce cf (c g (contains_head g gs)) n t))
   | inr t ↦ soon_so (point_of e.b) (stays_off (point_of e.b) g t) (λ r o. inr o)
 ]) (near_others es k e f ce cf n gs (λ h m. c h (contains_tail g h gs m)))
 
-miss_all : (e f : Segment) (r t : Point) → Misses r t e → Misses r t f → (gs : List Segment) → ((x : Point) → Within r t x → AllByRecursion (Else e f x) gs) → AllByRecursion (Misses r t) gs
+miss_all : (e f : Segment) (r t : Point) → Misses r t e → Misses r t f → (gs : List Segment)
+    → ((x : Point) → Within r t x → AllByRecursion (Else e f x) gs) → AllByRecursion (Misses r t) gs
 miss_all e f r t me mf [] h = tt
 miss_all e f r t me mf (g ∷ gs) h = (
   λ x w o. elim ((h x w).0) [
@@ -53,7 +55,8 @@ pub around : (es : List Segment) → AreRingEdges es → (e f : Segment) → Con
 around es k e f ce cf n = record {
   m = s.m;
   some = s.some;
-  same = λ r t hr ht me mf. still r t es k.balance (miss_all e f r t me mf es (λ x w. s.holds x (near_along s.m (point_of e.b) r t x hr ht w)));
+  same = λ r t hr ht me mf. still r t es k.balance
+      (miss_all e f r t me mf es (λ x w. s.holds x (near_along s.m (point_of e.b) r t x hr ht w)));
 }
   where
     s : Soon (point_of e.b) (λ r. AllByRecursion (Else e f r) es)
@@ -76,19 +79,27 @@ near_a-near e m = near_part_way (point_of e.a) e m (suc (m * span e)) (sym (one-
 
 pub near_a-inner : (e : Segment) (m : ℕ) → e.a ≢ e.b → Inner (near_a e m) e
 unfolding near_a
-near_a-inner e m n = record { on_edge = on_from_On (part_way e (suc (m * span e))) e (on-part_way e (suc (m * span e))); no_end = not_end e (suc (m * span e)) n (omega arith) }
+near_a-inner e m n = record {
+  on_edge = on_from_On (part_way e (suc (m * span e))) e (on-part_way e (suc (m * span e)));
+  no_end = not_end e (suc (m * span e)) n (omega arith);
+}
 
 pub inner_back : (p : Point) (e : Segment) → Inner p (reversed e) → Inner p e
 inner_back p e i = record { on_edge = sym (on-reversed p e) ∙ i.on_edge; no_end = either_end (is_at p e.a) (is_at p e.b) ∙ i.no_end }
 
 -- ---- past the corner
 -- left of both edges, or right of both, there are points near both
-left_turn : (es : List Segment) → AreRingEdges es → (u v w : Vertex) → Contains es (record { a = u; b = v }) → Contains es (record { a = v; b = w }) → (m : Around es (record { a = u; b = v }) (record { a = v; b = w })) → (p q : Point) (l n : ℤ) →
-    Near m.m (point_of v) p → Near m.m (point_of v) q → side p (record { a = u; b = v }) ≡ pos 0 → side q (record { a = v; b = w }) ≡ pos 0 →
-    Soon p (λ r. pos 0 <ℤ side r (record { a = u; b = v }) → pos 0 <ℤ side r (record { a = v; b = w })) → Soon q (λ r. pos 0 <ℤ side r (record { a = v; b = w }) → pos 0 <ℤ side r (record { a = u; b = v })) →
+left_turn : (es : List Segment) → AreRingEdges es → (u v w : Vertex) → Contains es (record { a = u; b = v })
+    → Contains es (record { a = v; b = w }) → (m : Around es (record { a = u; b = v }) (record { a = v; b = w })) → (p q : Point) (l n : ℤ)
+    →
+    Near m.m (point_of v) p → Near m.m (point_of v) q → side p (record { a = u; b = v }) ≡ pos 0 → side q (record { a = v; b = w }) ≡ pos 0
+    →
+    Soon p (λ r. pos 0 <ℤ side r (record { a = u; b = v }) → pos 0 <ℤ side r (record { a = v; b = w }))
+    → Soon q (λ r. pos 0 <ℤ side r (record { a = v; b = w }) → pos 0 <ℤ side r (record { a = u; b = v })) →
     Soon p (Parts l (record { a = u; b = v }) es) → Soon q (Parts n (record { a = v; b = w }) es) → l ≡ n
 left_turn es k u v w ce cf m p q l n np nq zp zq lp lq hp hq = sym (at_p.0.left bp.is_left) ∙ (m.same bp.left bq.left at_p.1.1 at_q.1.1
-    (left_misses bp.left bq.left e bp.is_left (at_q.1.0 bq.is_left)) (left_misses bp.left bq.left f (at_p.1.0 bp.is_left) bq.is_left) ∙ at_q.0.left bq.is_left)
+    (left_misses bp.left bq.left e bp.is_left (at_q.1.0 bq.is_left))
+    (left_misses bp.left bq.left f (at_p.1.0 bp.is_left) bq.is_left) ∙ at_q.0.left bq.is_left)
   where
     e : Segment
     e = record { a = u; b = v }
@@ -114,8 +125,11 @@ left_turn es k u v w ce cf m p q l n np nq zp zq lp lq hp hq = sym (at_p.0.left 
     at_q : Parts n f es bq.left × ((pos 0 <ℤ side bq.left f → pos 0 <ℤ side bq.left e) × Near m.m (point_of v) bq.left)
     at_q = sq.holds bq.left bq.near_left
 
-right_turn : (es : List Segment) → AreRingEdges es → (u v w : Vertex) → Contains es (record { a = u; b = v }) → Contains es (record { a = v; b = w }) → (m : Around es (record { a = u; b = v }) (record { a = v; b = w })) → (p q : Point) (l n : ℤ) →
-    Near m.m (point_of v) p → Near m.m (point_of v) q → side p (record { a = u; b = v }) ≡ pos 0 → side q (record { a = v; b = w }) ≡ pos 0 →
+right_turn : (es : List Segment) → AreRingEdges es → (u v w : Vertex) → Contains es (record { a = u; b = v })
+    → Contains es (record { a = v; b = w }) → (m : Around es (record { a = u; b = v }) (record { a = v; b = w })) → (p q : Point) (l n : ℤ)
+    →
+    Near m.m (point_of v) p → Near m.m (point_of v) q → side p (record { a = u; b = v }) ≡ pos 0 → side q (record { a = v; b = w }) ≡ pos 0
+    →
     Soon p (λ r. side r (record { a = v; b = w }) <ℤ pos 0) → Soon q (λ r. side r (record { a = u; b = v }) <ℤ pos 0) →
     Soon p (Parts l (record { a = u; b = v }) es) → Soon q (Parts n (record { a = v; b = w }) es) → l ≡ n
 right_turn es k u v w ce cf m p q l n np nq zp zq lp lq hp hq =
@@ -153,7 +167,8 @@ right_turn es k u v w ce cf m p q l n np nq zp zq lp lq hp hq =
     at_q = sq.holds bq.right bq.near_right
 
 -- the edge behind a corner has the number of the edge before it
-pub past : (es : List Segment) → AreRingEdges es → (u v w : Vertex) (l : ℤ) → Contains es (record { a = u; b = v }) → Contains es (record { a = v; b = w }) → Whole es l (record { a = u; b = v }) → Whole es l (record { a = v; b = w })
+pub past : (es : List Segment) → AreRingEdges es → (u v w : Vertex) (l : ℤ) → Contains es (record { a = u; b = v })
+    → Contains es (record { a = v; b = w }) → Whole es l (record { a = u; b = v }) → Whole es l (record { a = v; b = w })
 past es k u v w l ce cf h = whole es k f cf l q iq (subst (λ z. Soon q (Parts z f es)) (sym same) t.1)
   where
     e : Segment
@@ -216,11 +231,15 @@ past es k u v w l ce cf h = whole es k f cf l q iq (subst (λ z. Soon q (Parts z
     same : l ≡ t.0
     same = by_sign (side (point_of w) e)
         (λ s. left_turn es k u v w ce cf m p q l t.0 np nq zp zq
-        (soon_so p (stays_left p f (inner_left p (reversed e) f wp (omega (arith, linear, side-own_a f)) (omega (arith, linear, same_turn)))) (λ r x _. x))
+        (soon_so p
+        (stays_left p f (inner_left p (reversed e) f wp (omega (arith, linear, side-own_a f)) (omega (arith, linear, same_turn))))
+        (λ r x _. x))
         (soon_so q (stays_left q e (inner_left q f e wq (omega (arith, linear, side-own_b e)) s)) (λ r x _. x)) (h p ip) t.1)
         (λ s. let ahead = goes_on es k u v w ce cf s in let far = long e (heading e ne) in left_turn es k u v w ce cf m p q l t.0 np nq zp zq
-        (always p (λ r x. pos_from_mul (length_of e) (side r f) far (omega (arith, linear, tied r u v w s, mul-pos (run_to e w) (side r e) ahead x))))
-        (always q (λ r x. pos_from_mul (run_to e w) (side r e) ahead (omega (arith, linear, tied r u v w s, mul-pos (length_of e) (side r f) far x)))) (h p ip) t.1)
+        (always p (λ r x. pos_from_mul (length_of e) (side r f) far
+        (omega (arith, linear, tied r u v w s, mul-pos (run_to e w) (side r e) ahead x))))
+        (always q (λ r x. pos_from_mul (run_to e w) (side r e) ahead
+        (omega (arith, linear, tied r u v w s, mul-pos (length_of e) (side r f) far x)))) (h p ip) t.1)
         (λ s. right_turn es k u v w ce cf m p q l t.0 np nq zp zq
         (stays_right p f (inner_right p e f wp_on (omega (arith, linear, same_turn)) (omega (arith, linear, side-own_a f))))
         (stays_right q e (right_of_q s)) (h p ip) t.1)

@@ -21,7 +21,8 @@ pub record AreRingEdges (es : List Segment) : Type 0 where
   -- one edge at most goes through a point that is no end
   pub once : (p : Point) → AllByRecursion (λ f. is_end p f ≡ false) es → count_by (on p) es ≤ 1
   -- at the end of an edge stand that edge and the next, and no other
-  pub corner : (e f g : Segment) → Contains es e → Contains es f → Contains es g → e.b ≡ f.a → on (point_of e.b) g ≡ true → (g ≡ e) ⊎ (g ≡ f)
+  pub corner : (e f g : Segment) → Contains es e → Contains es f → Contains es g → e.b ≡ f.a → on (point_of e.b) g ≡ true
+      → (g ≡ e) ⊎ (g ≡ f)
   -- an edge and the next have but that end in common
   pub shared : (e f : Segment) (p : Point) → Contains es e → Contains es f → e.b ≡ f.a → on p e ≡ true → on p f ≡ true → is_at p e.b ≡ true
 
@@ -36,9 +37,11 @@ pub record Parts (l : ℤ) (e : Segment) (es : List Segment) (r : Point) : Type 
   pub right : side r e <ℤ pos 0 → wind r es ≡ l -ℤ pos 1
 
 -- e is the one edge through p
-passes_own : (es : List Segment) → AreRingEdges es → (e : Segment) → Contains es e → (p : Point) → Inner p e → (g : Segment) → Contains es g → PassesAlong p e g
+passes_own : (es : List Segment) → AreRingEdges es → (e : Segment) → Contains es e → (p : Point) → Inner p e → (g : Segment) → Contains es g
+    → PassesAlong p e g
 passes_own es k e ce p i g cg = record {
-  along = λ og. let q = k.own e g p ce cg i.on_edge og i.no_end in (ap (λ f. side (point_of f.a) e) q ∙ side-own_a e, ap (λ f. side (point_of f.b) e) q ∙ side-own_b e);
+  along = λ og. let q = k.own e g p ce cg i.on_edge og i.no_end
+      in (ap (λ f. side (point_of f.a) e) q ∙ side-own_a e, ap (λ f. side (point_of f.b) e) q ∙ side-own_b e);
   no_end = elim (cases_Bool (is_end p g)) [
     | inr t ↦ t
     | inl t ↦ absurd (both_ways (is_end p e) i.no_end (ap (is_end p) (sym (k.own e g p ce cg i.on_edge (end_on p g t) i.no_end)) ∙ t))
@@ -46,13 +49,17 @@ passes_own es k e ce p i g cg = record {
 }
 
 -- near an inner point of an edge the winding number is some number left of it, and one less right of it
-pub two_sides : (es : List Segment) → AreRingEdges es → (e : Segment) → Contains es e → (p : Point) → Inner p e → (l : ℤ) × Soon p (Parts l e es)
+pub two_sides : (es : List Segment) → AreRingEdges es → (e : Segment) → Contains es e → (p : Point) → Inner p e
+    → (l : ℤ) × Soon p (Parts l e es)
 two_sides es k e ce p i = (
   j.left,
   record {
     m = j.m;
     some = j.some;
-    holds = λ r near. record { left = λ s. j.at_left r near s; right = λ s. omega (arith, linear, j.at_right r near s, j.difference, along, both, k.once p none) };
+    holds = λ r near. record {
+      left = λ s. j.at_left r near s;
+      right = λ s. omega (arith, linear, j.at_right r near s, j.difference, along, both, k.once p none);
+    };
   },
 )
   where

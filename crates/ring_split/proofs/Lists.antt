@@ -9,7 +9,8 @@ use Rattle.std.proofs.lemmas.List.Elements.{Contains-push, Contains-push_cases, 
 use Rattle.rd_plane.proofs.RingPlaces.{by_lt}
 
 -- what holds of the elements before a place and of the one there holds of those before the next
-pub more_of : {X : Type 0} (P : X → Type 0) (xs : List X) (i : ℕ) (d : X) → i < length xs → ((y : X) → Contains (take i xs) y → P y) → P (slice_index_or xs i d) → (y : X) → Contains (take (i + 1) xs) y → P y
+pub more_of : {X : Type 0} (P : X → Type 0) (xs : List X) (i : ℕ) (d : X) → i < length xs → ((y : X) → Contains (take i xs) y → P y)
+    → P (slice_index_or xs i d) → (y : X) → Contains (take (i + 1) xs) y → P y
 more_of {X} P xs i d k h p y c = elim (Contains-push_cases (take i xs) (slice_index_or xs i d) y (subst (λ l. Contains l y) longer c)) [
   | inl t ↦ h y t
   | inr t ↦ subst P t p
@@ -19,7 +20,8 @@ more_of {X} P xs i d k h p y c = elim (Contains-push_cases (take i xs) (slice_in
     longer = let n : i + 1 ≡ suc i = omega arith in ap (λ m. take m xs) n ∙ take-suc xs i d k
 
 -- what holds of the elements before the end holds of all
-pub all_of : {X : Type 0} (P : X → Type 0) (xs : List X) (i : ℕ) → length xs ≤ i → ((y : X) → Contains (take i xs) y → P y) → (y : X) → Contains xs y → P y
+pub all_of : {X : Type 0} (P : X → Type 0) (xs : List X) (i : ℕ) → length xs ≤ i → ((y : X) → Contains (take i xs) y → P y) → (y : X)
+    → Contains xs y → P y
 all_of P xs i k h y c = h y (subst (λ l. Contains l y) (sym (take_all i xs k)) c)
 
 -- the list has just the numbers below n
@@ -32,5 +34,6 @@ one_more n xs h = (
     | inl t ↦ omega (arith, h.0 k t)
     | inr t ↦ omega (arith, t)
   ],
-  λ k l. by_lt k n (λ t. Contains-append_left xs (n ∷ []) k (h.1 k t)) (λ t. subst (Contains (xs ++ n ∷ [])) (omega (arith, t, l)) (Contains-push xs n)),
+  λ k l. by_lt k n (λ t. Contains-append_left xs (n ∷ []) k (h.1 k t))
+      (λ t. subst (Contains (xs ++ n ∷ [])) (omega (arith, t, l)) (Contains-push xs n)),
 )

@@ -51,25 +51,30 @@ face es s = record {
 record Inside (es : List Segment) (e : Segment) (r : Point) : Type 0 where
   inside : pos 0 <ℤ side r e → (wind r es ≡ pos 1) × (off r es ≡ true)
 
-left_soon : (es : List Segment) → AreOfShape es → (e : Segment) → Contains es e → e.a ≢ e.b → (p : Point) → on p e ≡ true → is_end p e ≡ false → Soon p (Inside es e)
+left_soon : (es : List Segment) → AreOfShape es → (e : Segment) → Contains es e → e.a ≢ e.b → (p : Point) → on p e ≡ true
+    → is_end p e ≡ false → Soon p (Inside es e)
 left_soon es s e ce d p o n = record {
   m = t.m;
   some = t.some;
-  holds = λ r near. let k = t.holds r near in record { inside = λ l. (omega (arith, linear, k.0.left l), k.1 (λ z. omega (arith, linear, z, l))) };
+  holds = λ r near. let k = t.holds r near
+      in record { inside = λ l. (omega (arith, linear, k.0.left l), k.1 (λ z. omega (arith, linear, z, l))) };
 }
   where
     goods : AllByRecursion (Good p e) es
-    goods = recursion_from_All (Good p e) es (λ i g h. own_good (pos 0) es (face es s) e ce p o n (get_or es i g) (Contains-get_or es i g h))
+    goods
+        = recursion_from_All (Good p e) es (λ i g h. own_good (pos 0) es (face es s) e ce p o n (get_or es i g) (Contains-get_or es i g h))
 
     t : Soon p (λ r. Parted (pos 0) e es r × ((side r e ≡ pos 0 → ⊥) → off r es ≡ true))
     t = both_soon p (parted (pos 0) es (face es s) e ce d p o n) (off_soon p e es goods)
 
 -- ---- the way into the corner
 det_step : (eax eay ebx eby fax fay fbx fby : ℤ) →
-    ((ebx -ℤ eax) *ℤ (fby -ℤ eay) -ℤ (eby -ℤ eay) *ℤ (fbx -ℤ eax)) -ℤ ((ebx -ℤ eax) *ℤ (fay -ℤ eay) -ℤ (eby -ℤ eay) *ℤ (fax -ℤ eax)) ≡ (ebx -ℤ eax) *ℤ (fby -ℤ fay) -ℤ (eby -ℤ eay) *ℤ (fbx -ℤ fax)
+    ((ebx -ℤ eax) *ℤ (fby -ℤ eay) -ℤ (eby -ℤ eay) *ℤ (fbx -ℤ eax))
+    -ℤ ((ebx -ℤ eax) *ℤ (fay -ℤ eay) -ℤ (eby -ℤ eay) *ℤ (fax -ℤ eax)) ≡ (ebx -ℤ eax) *ℤ (fby -ℤ fay) -ℤ (eby -ℤ eay) *ℤ (fbx -ℤ fax)
 det_step eax eay ebx eby fax fay fbx fby = simp expanded (omega (arith, linear))
 
-det : (e f : Segment) → side (point_of f.b) e -ℤ side (point_of f.a) e ≡ (e.b.x -ℤ e.a.x) *ℤ (f.b.y -ℤ f.a.y) -ℤ (e.b.y -ℤ e.a.y) *ℤ (f.b.x -ℤ f.a.x)
+det : (e f : Segment)
+    → side (point_of f.b) e -ℤ side (point_of f.a) e ≡ (e.b.x -ℤ e.a.x) *ℤ (f.b.y -ℤ f.a.y) -ℤ (e.b.y -ℤ e.a.y) *ℤ (f.b.x -ℤ f.a.x)
 det e f = rw (side-point_of f.b e, side-point_of f.a e) (det_step e.a.x e.a.y e.b.x e.b.y f.a.x f.a.y f.b.x f.b.y)
 
 left_of_first : (ex ey fx fy : ℤ) → ex *ℤ (fy -ℤ ey) -ℤ ey *ℤ (fx -ℤ ex) ≡ ex *ℤ fy -ℤ ey *ℤ fx
@@ -79,7 +84,8 @@ left_of_second : (ex ey fx fy : ℤ) → fx *ℤ (fy -ℤ ey) -ℤ fy *ℤ (fx -
 left_of_second ex ey fx fy = simp expanded (omega (arith, linear))
 
 -- where f runs from the right of e to its left, the way along f and back along e leads to the left of both
-corner : (es fs : List Segment) → AreOfShape es → AreOfShape fs → (e f : Segment) → Contains es e → Contains fs f → e.a ≢ e.b → f.a ≢ f.b → (p : Point) → On p e → On p f → is_end p e ≡ false → is_end p f ≡ false →
+corner : (es fs : List Segment) → AreOfShape es → AreOfShape fs → (e f : Segment) → Contains es e → Contains fs f → e.a ≢ e.b → f.a ≢ f.b
+    → (p : Point) → On p e → On p f → is_end p e ≡ false → is_end p f ≡ false →
     side (point_of f.a) e <ℤ side (point_of f.b) e → Share es fs
 corner es fs s t e f ce cf de df p oe of ne nf h = (
   r,
@@ -110,20 +116,46 @@ corner es fs s t e f ce cf de df p oe of ne nf h = (
     at = near.holds r (moved_near p near.m k dx dy (omega arith) (omega arith))
 
     first : (wind r es ≡ pos 1) × (off r es ≡ true)
-    first = at.0.inside (omega (arith, linear, side-moved p e dx dy (near.m * k) oe.straight, left_of_first (e.b.x -ℤ e.a.x) (e.b.y -ℤ e.a.y) (f.b.x -ℤ f.a.x) (f.b.y -ℤ f.a.y), det e f, h))
+    first = at.0.inside (omega (
+      arith,
+      linear,
+      side-moved p e dx dy (near.m * k) oe.straight,
+      left_of_first (e.b.x -ℤ e.a.x) (e.b.y -ℤ e.a.y) (f.b.x -ℤ f.a.x) (f.b.y -ℤ f.a.y),
+      det e f,
+      h,
+    ))
 
     second : (wind r fs ≡ pos 1) × (off r fs ≡ true)
-    second = at.1.inside (omega (arith, linear, side-moved p f dx dy (near.m * k) of.straight, left_of_second (e.b.x -ℤ e.a.x) (e.b.y -ℤ e.a.y) (f.b.x -ℤ f.a.x) (f.b.y -ℤ f.a.y), det e f, h))
+    second = at.1.inside (omega (
+      arith,
+      linear,
+      side-moved p f dx dy (near.m * k) of.straight,
+      left_of_second (e.b.x -ℤ e.a.x) (e.b.y -ℤ e.a.y) (f.b.x -ℤ f.a.x) (f.b.y -ℤ f.a.y),
+      det e f,
+      h,
+    ))
 
 exchanged : (es fs : List Segment) → Share es fs → Share fs es
-exchanged es fs k = (k.0, record { off_first = k.1.off_second; off_second = k.1.off_first; in_first = k.1.in_second; in_second = k.1.in_first })
+exchanged es fs k
+    = (k.0, record { off_first = k.1.off_second; off_second = k.1.off_first; in_first = k.1.in_second; in_second = k.1.in_first })
 
-pub crossing_shares : (es fs : List Segment) → AreOfShape es → AreOfShape fs → (e f : Segment) → Contains es e → Contains fs f → Crosses e f → Share es fs
+pub crossing_shares : (es fs : List Segment) → AreOfShape es → AreOfShape fs → (e f : Segment) → Contains es e → Contains fs f → Crosses e f
+    → Share es fs
 crossing_shares es fs s t e f ce cf c = elim c.first [
   | inl k ↦ corner es fs s t e f ce cf c.begun c.ended p.0 p.1 p.2 ne nf (omega (arith, linear, k.0, k.1))
   | inr k ↦ elim c.second [
     | inl l ↦ exchanged fs es (corner fs es t s f e cf ce c.ended c.begun p.0 p.2 p.1 nf ne (omega (arith, linear, l.0, l.1)))
-    | inr l ↦ absurd (omega (arith, linear, k.0, k.1, l.0, l.1, det e f, det f e, det_back (e.b.x -ℤ e.a.x) (e.b.y -ℤ e.a.y) (f.b.x -ℤ f.a.x) (f.b.y -ℤ f.a.y)))
+    | inr l ↦ absurd (omega (
+      arith,
+      linear,
+      k.0,
+      k.1,
+      l.0,
+      l.1,
+      det e f,
+      det f e,
+      det_back (e.b.x -ℤ e.a.x) (e.b.y -ℤ e.a.y) (f.b.x -ℤ f.a.x) (f.b.y -ℤ f.a.y),
+    ))
   ]
 ]
   where

@@ -37,22 +37,30 @@ not_parted e f de df n p oe of = elim (cases_Bool (is_end p e)) [
 pub boxes_apart : (box other : Box) (e f : Segment) → HoldsEdge box e → HoldsEdge other f → (HaveCommonPoint box other → ⊥) → DoNotCross e f
 boxes_apart box other e f h k n p oe of = absurd (n (boxes_meet box other e f p h k oe of))
 
-pub edge_apart : (own box : Box) (e : Segment) (es : List Segment) → IsLeastBox (e.a ∷ e.b ∷ []) own → HoldsEdges box es → (HaveCommonPoint own box → ⊥) → All (DoNotCross e) es
+pub edge_apart : (own box : Box) (e : Segment) (es : List Segment) → IsLeastBox (e.a ∷ e.b ∷ []) own → HoldsEdges box es
+    → (HaveCommonPoint own box → ⊥) → All (DoNotCross e) es
 edge_apart own box e es l h n i d k = boxes_apart own box e (get_or es i d) (holds_edge own e l) (h i d k) n
 
-pub lists_apart : (box other : Box) (es fs : List Segment) → HoldsEdges other es → HoldsEdges box fs → (HaveCommonPoint box other → ⊥) → NoneCrosses es fs
-lists_apart box other es fs h k n i d l j c m = boxes_apart other box (get_or es i d) (get_or fs j c) (h i d l) (k j c m) (λ t. n (t.0, t.2, t.1))
+pub lists_apart : (box other : Box) (es fs : List Segment) → HoldsEdges other es → HoldsEdges box fs → (HaveCommonPoint box other → ⊥)
+    → NoneCrosses es fs
+lists_apart box other es fs h k n i d l j c m
+    = boxes_apart other box (get_or es i d) (get_or fs j c) (h i d l) (k j c m) (λ t. n (t.0, t.2, t.1))
 
-pub found_box : (found : Option Box) (es : List Segment) (box : Box) → MatchOption found (es ≡ []) (λ b. HoldsEdges b es) → found ≡ Some box → HoldsEdges box es
+pub found_box : (found : Option Box) (es : List Segment) (box : Box) → MatchOption found (es ≡ []) (λ b. HoldsEdges b es) → found ≡ Some box
+    → HoldsEdges box es
 found_box found es box h q = rw q at h
 
 -- ---- one edge more
-pub more : (P : Segment → Type 0) (es : List Segment) (i : ℕ) (e : Segment) → i < length es → get_or es i e ≡ e → ((k : ℕ) (d : Segment) → k < i → P (get_or es k d)) → P e → (k : ℕ) (d : Segment) → k < i + 1 → P (get_or es k d)
-more P es i e l q h p k d m = by_lt_z (pos k) (pos i) (λ n. h k d (omega (arith, linear, n))) (λ n. let s : i ≡ k = omega (arith, linear, n, m) in subst P (sym q ∙ get_or_default es i e d l ∙ ap (λ j. get_or es j d) s) p)
+pub more : (P : Segment → Type 0) (es : List Segment) (i : ℕ) (e : Segment) → i < length es → get_or es i e ≡ e
+    → ((k : ℕ) (d : Segment) → k < i → P (get_or es k d)) → P e → (k : ℕ) (d : Segment) → k < i + 1 → P (get_or es k d)
+more P es i e l q h p k d m = by_lt_z (pos k) (pos i) (λ n. h k d (omega (arith, linear, n)))
+    (λ n. let s : i ≡ k = omega (arith, linear, n, m) in subst P (sym q ∙ get_or_default es i e d l ∙ ap (λ j. get_or es j d) s) p)
 
 -- ---- stretches
-pub in_stretch : (es : List Segment) (from to k : ℕ) (d : Segment) → to ≤ length es → from ≤ k → k < to → get_or (take (to - from) (drop from es)) (k - from) d ≡ get_or es k d
-in_stretch es from to k d h l m = get_or-take (to - from) (drop from es) (k - from) d (omega (arith, l, m)) ∙ get_or-drop from es (k - from) d ∙ ap (λ n. get_or es n d) (omega (arith, l))
+pub in_stretch : (es : List Segment) (from to k : ℕ) (d : Segment) → to ≤ length es → from ≤ k → k < to
+    → get_or (take (to - from) (drop from es)) (k - from) d ≡ get_or es k d
+in_stretch es from to k d h l m = get_or-take (to - from) (drop from es) (k - from) d (omega (arith, l, m)) ∙ get_or-drop from es (k - from)
+    d ∙ ap (λ n. get_or es n d) (omega (arith, l))
 
 length-stretch : (es : List Segment) (from to : ℕ) → to ≤ length es → length (take (to - from) (drop from es)) ≡ to - from
 length-stretch es from to h = omega (arith, length-take (to - from) (drop from es), length-drop from es, h)
@@ -61,18 +69,28 @@ length-stretch es from to h = omega (arith, length-take (to - from) (drop from e
 abbrev pub NoneBefore : List Segment → List Segment → ℕ → Type 0
 NoneBefore es second to = (k : ℕ) (d : Segment) → k < to → All (λ f. DoNotCross f (get_or es k d)) second
 
-pub stretch_more : (es second : List Segment) (from to : ℕ) → to ≤ length es → NoneBefore es second from → NoneCrosses second (take (to - from) (drop from es)) → NoneBefore es second to
+pub stretch_more : (es second : List Segment) (from to : ℕ) → to ≤ length es → NoneBefore es second from
+    → NoneCrosses second (take (to - from) (drop from es)) → NoneBefore es second to
 stretch_more es second from to h b n k d m j c l = by_lt_z (pos k) (pos from) (λ t. b k d (omega (arith, linear, t)) j c l)
-    (λ t. let w : from ≤ k = omega (arith, linear, t) in subst (DoNotCross (get_or second j c)) (in_stretch es from to k d h w m) (n j c l (k - from) d (omega (arith, length-stretch es from to h, m, w))))
+    (λ t. let w : from ≤ k = omega (arith, linear, t) in subst (DoNotCross (get_or second j c)) (in_stretch es from to k d h w m)
+    (n j c l (k - from) d (omega (arith, length-stretch es from to h, m, w))))
 
 pub none_before_end : (es second : List Segment) (to : ℕ) → length es ≤ to → NoneBefore es second to → NoneCrosses second es
 none_before_end es second to h b j c l k d m = b k d (omega (arith, m, h)) j c l
 
 -- an edge of a stretch is one of the list
-pub stretch_has : (es : List Segment) (from to : ℕ) (e : Segment) → to ≤ length es → from ≤ to → Contains (take (to - from) (drop from es)) e → Contains es e
-stretch_has es from to e h w c = (from + c.0, omega (arith, c.1, length-stretch es from to h, h), sym (in_stretch es from to (from + c.0) e h (omega arith) (omega (arith, c.1, length-stretch es from to h))) ∙ ap (λ n. get_or (take (to - from) (drop from es)) n e) (omega arith) ∙ c.2)
+pub stretch_has : (es : List Segment) (from to : ℕ) (e : Segment) → to ≤ length es → from ≤ to
+    → Contains (take (to - from) (drop from es)) e → Contains es e
+stretch_has es from to e h w c = (
+  from + c.0,
+  omega (arith, c.1, length-stretch es from to h, h),
+  sym (in_stretch es from to (from + c.0) e
+      h (omega arith) (omega (arith, c.1, length-stretch es from to h))) ∙ ap (λ n. get_or (take (to - from) (drop from es)) n e)
+      (omega arith) ∙ c.2,
+)
 
-pub stretch_crossed : (es second : List Segment) (from to : ℕ) → to ≤ length es → from ≤ to → SomeCross second (take (to - from) (drop from es)) → SomeCross second es
+pub stretch_crossed : (es second : List Segment) (from to : ℕ) → to ≤ length es → from ≤ to
+    → SomeCross second (take (to - from) (drop from es)) → SomeCross second es
 stretch_crossed es second from to h w c = (c.0, c.1, (c.2.0, stretch_has es from to c.2.0 h w c.2.1, c.2.2))
 
 pub none_of_empty : (second es : List Segment) → second ≡ [] → NoneCrosses second es

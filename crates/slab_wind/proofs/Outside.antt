@@ -15,10 +15,13 @@ use Rattle.rd_plane.proofs.Polynomials.{linear, expanded, mul-pos, mul-nonneg, m
 use Rattle.rd_plane.proofs.Winding.{lies_in-zero}
 use Rattle.slab_wind.specs.Sharing.{Share}
 
-edge_step : (ax ay bx by px py q : ℤ) → (q *ℤ by -ℤ py) *ℤ (px -ℤ q *ℤ ax) +ℤ (py -ℤ q *ℤ ay) *ℤ (px -ℤ q *ℤ bx) ≡ neg_ℤ (q *ℤ ((bx -ℤ ax) *ℤ (py -ℤ q *ℤ ay) -ℤ (by -ℤ ay) *ℤ (px -ℤ q *ℤ ax)))
+edge_step : (ax ay bx by px py q : ℤ)
+    → (q *ℤ by -ℤ py) *ℤ (px -ℤ q *ℤ ax) +ℤ (py -ℤ q *ℤ ay) *ℤ (px -ℤ q *ℤ bx) ≡ neg_ℤ
+    (q *ℤ ((bx -ℤ ax) *ℤ (py -ℤ q *ℤ ay) -ℤ (by -ℤ ay) *ℤ (px -ℤ q *ℤ ax)))
 edge_step ax ay bx by px py q = simp expanded (omega (arith, linear))
 
-opened : (p : Point) (e : Segment) → (p.q *ℤ e.b.y -ℤ p.py) *ℤ (p.px -ℤ p.q *ℤ e.a.x) +ℤ (p.py -ℤ p.q *ℤ e.a.y) *ℤ (p.px -ℤ p.q *ℤ e.b.x) ≡ neg_ℤ (p.q *ℤ side p e)
+opened : (p : Point) (e : Segment)
+    → (p.q *ℤ e.b.y -ℤ p.py) *ℤ (p.px -ℤ p.q *ℤ e.a.x) +ℤ (p.py -ℤ p.q *ℤ e.a.y) *ℤ (p.px -ℤ p.q *ℤ e.b.x) ≡ neg_ℤ (p.q *ℤ side p e)
 unfolding side
 opened p e = edge_step e.a.x e.a.y e.b.x e.b.y p.px p.py p.q
 
@@ -102,7 +105,8 @@ west_all p e h = by_lt_z p.py (p.q *ℤ e.a.y)
     flips : (m n : ℤ) → neg_ℤ m *ℤ neg_ℤ n ≡ m *ℤ n
     flips m n = simp expanded (omega (arith, linear))
 
-west_sum : (p : Point) (es : List Segment) → AllByRecursion (IsWestOfEnds p) es → wind p es ≡ total (over p) (ends es) -ℤ total (over p) (begins es)
+west_sum : (p : Point) (es : List Segment) → AllByRecursion (IsWestOfEnds p) es
+    → wind p es ≡ total (over p) (ends es) -ℤ total (over p) (begins es)
 unfolding wind total begins ends
 west_sum p [] h = refl
 west_sum p (e ∷ es) h = omega (arith, linear, west_all p e h.0, west_sum p es h.1)
@@ -117,7 +121,8 @@ unfolding wind
 low_sum p [] h = refl
 low_sum p (e ∷ es) h = omega (arith, linear, cross_below p e h.0.0 h.0.1, low_sum p es h.1)
 
-high_sum : (p : Point) (es : List Segment) → AllByRecursion (λ e. ((p.q *ℤ e.a.y) ≤ℤ p.py) × ((p.q *ℤ e.b.y) ≤ℤ p.py)) es → wind p es ≡ pos 0
+high_sum : (p : Point) (es : List Segment) → AllByRecursion (λ e. ((p.q *ℤ e.a.y) ≤ℤ p.py) × ((p.q *ℤ e.b.y) ≤ℤ p.py)) es
+    → wind p es ≡ pos 0
 unfolding wind
 high_sum p [] h = refl
 high_sum p (e ∷ es) h = omega (arith, linear, cross_above p e h.0.0 h.0.1, high_sum p es h.1)
@@ -133,12 +138,31 @@ past q low v h k = mul-le q low v h (omega (arith, linear, k, one-mul low))
 short : (q v high : ℤ) → pos 0 ≤ℤ q → v ≤ℤ (pos 1 *ℤ high) → (q *ℤ v) ≤ℤ (q *ℤ high)
 short q v high h k = mul-le q v high h (omega (arith, linear, k, one-mul high))
 
-pub wound_in_box : (box : Box) (es : List Segment) (p : Point) → HoldsEdges box es → EndsBalance es → (wind p es ≡ pos 0 → ⊥) → LiesInBox box p
+pub wound_in_box : (box : Box) (es : List Segment) (p : Point) → HoldsEdges box es → EndsBalance es → (wind p es ≡ pos 0 → ⊥)
+    → LiesInBox box p
 wound_in_box box es p h b n = record {
-  west = by_lt_z p.px (p.q *ℤ box.low.x) (λ k. absurd (n (west_none (every (HoldsEdge box) (IsWestOfEnds p) es (λ e t. record { from_a = omega (arith, linear, k, past p.q box.low.x e.a.x some t.0.west); from_b = omega (arith, linear, k, past p.q box.low.x e.b.x some t.1.west) }) held)))) (λ k. k);
-  east = by_lt_z (p.q *ℤ box.high.x) p.px (λ k. absurd (n (east_sum p es (every (HoldsEdge box) (IsEast p) es (λ e t. record { from_a = omega (arith, linear, k, short p.q e.a.x box.high.x some t.0.east); from_b = omega (arith, linear, k, short p.q e.b.x box.high.x some t.1.east) }) held)))) (λ k. k);
-  south = by_lt_z p.py (p.q *ℤ box.low.y) (λ k. absurd (n (low_sum p es (every (HoldsEdge box) (λ e. (p.py <ℤ (p.q *ℤ e.a.y)) × (p.py <ℤ (p.q *ℤ e.b.y))) es (λ e t. (omega (arith, linear, k, past p.q box.low.y e.a.y some t.0.south), omega (arith, linear, k, past p.q box.low.y e.b.y some t.1.south))) held)))) (λ k. k);
-  north = by_lt_z (p.q *ℤ box.high.y) p.py (λ k. absurd (n (high_sum p es (every (HoldsEdge box) (λ e. ((p.q *ℤ e.a.y) ≤ℤ p.py) × ((p.q *ℤ e.b.y) ≤ℤ p.py)) es (λ e t. (omega (arith, linear, k, short p.q e.a.y box.high.y some t.0.north), omega (arith, linear, k, short p.q e.b.y box.high.y some t.1.north))) held)))) (λ k. k);
+  west = by_lt_z p.px (p.q *ℤ box.low.x) (λ k. absurd (n (west_none (every (HoldsEdge box) (IsWestOfEnds p) es
+      (λ e t. record {
+        from_a = omega (arith, linear, k, past p.q box.low.x e.a.x some t.0.west);
+        from_b = omega (arith, linear, k, past p.q box.low.x e.b.x some t.1.west);
+      }) held)))) (λ k. k);
+  east = by_lt_z (p.q *ℤ box.high.x) p.px (λ k. absurd (n (east_sum p es (every (HoldsEdge box) (IsEast p) es
+      (λ e t. record {
+        from_a = omega (arith, linear, k, short p.q e.a.x box.high.x some t.0.east);
+        from_b = omega (arith, linear, k, short p.q e.b.x box.high.x some t.1.east);
+      }) held)))) (λ k. k);
+  south = by_lt_z p.py (p.q *ℤ box.low.y) (λ k. absurd (n (low_sum p es (every (HoldsEdge box)
+      (λ e. (p.py <ℤ (p.q *ℤ e.a.y)) × (p.py <ℤ (p.q *ℤ e.b.y))) es (λ e t. (
+        omega
+            (arith, linear, k, past p.q box.low.y e.a.y some t.0.south),
+        omega (arith, linear, k, past p.q box.low.y e.b.y some t.1.south),
+      )) held)))) (λ k. k);
+  north = by_lt_z (p.q *ℤ box.high.y) p.py (λ k. absurd (n (high_sum p es (every (HoldsEdge box)
+      (λ e. ((p.q *ℤ e.a.y) ≤ℤ p.py) × ((p.q *ℤ e.b.y) ≤ℤ p.py)) es (λ e t. (
+        omega
+            (arith, linear, k, short p.q e.a.y box.high.y some t.0.north),
+        omega (arith, linear, k, short p.q e.b.y box.high.y some t.1.north),
+      )) held)))) (λ k. k);
 }
   where
     some : pos 0 ≤ℤ p.q
@@ -148,8 +172,18 @@ wound_in_box box es p h b n = record {
     held = recursion_from_All (HoldsEdge box) es h
 
     west_none : AllByRecursion (IsWestOfEnds p) es → wind p es ≡ pos 0
-    west_none w = omega (arith, linear, west_sum p es w, same_total (over p) (begins es) (ends es) (λ v. points-begins v es ∙ b v ∙ sym (points-ends v es)))
+    west_none w = omega (
+      arith,
+      linear,
+      west_sum p es w,
+      same_total (over p) (begins es) (ends es) (λ v. points-begins v es ∙ b v ∙ sym (points-ends v es)),
+    )
 
 -- shapes whose boxes lie apart share no point
-pub boxes_share : (box other : Box) (es fs : List Segment) → HoldsEdges box es → HoldsEdges other fs → EndsBalance es → EndsBalance fs → Share es fs → HaveCommonPoint box other
-boxes_share box other es fs h k b c s = (s.0, wound_in_box box es s.0 h b (λ z. both_ways (lies_in s.0 es) (lies_in-zero s.0 es z) s.1.in_first), wound_in_box other fs s.0 k c (λ z. both_ways (lies_in s.0 fs) (lies_in-zero s.0 fs z) s.1.in_second))
+pub boxes_share : (box other : Box) (es fs : List Segment) → HoldsEdges box es → HoldsEdges other fs → EndsBalance es → EndsBalance fs
+    → Share es fs → HaveCommonPoint box other
+boxes_share box other es fs h k b c s = (
+  s.0,
+  wound_in_box box es s.0 h b (λ z. both_ways (lies_in s.0 es) (lies_in-zero s.0 es z) s.1.in_first),
+  wound_in_box other fs s.0 k c (λ z. both_ways (lies_in s.0 fs) (lies_in-zero s.0 fs z) s.1.in_second),
+)

@@ -30,7 +30,10 @@ module _ {X : Type 0} (lt : X → X → Bool) (o : IsStrictWeakOrder lt) where
 
   up_by : (xs : List X) → ((i j : ℕ) (d : X) → i ≤ j → j < length xs → lt (get_or xs j d) (get_or xs i d) ≡ false) → Up lt xs
   up_by [] h = tt
-  up_by (x ∷ xs) h = (none_at x xs (λ k d l. h 0 (suc k) d (omega arith) (omega (arith, l))), up_by xs (λ i j d p q. h (suc i) (suc j) d (omega (arith, p)) (omega (arith, q))))
+  up_by (x ∷ xs) h = (
+    none_at x xs (λ k d l. h 0 (suc k) d (omega arith) (omega (arith, l))),
+    up_by xs (λ i j d p q. h (suc i) (suc j) d (omega (arith, p)) (omega (arith, q))),
+  )
 
   up : (xs : List X) → IsSortedBy lt xs → Up lt xs
   up xs h = up_by xs (sorted_far lt o xs h)
@@ -48,10 +51,12 @@ module _ {X : Type 0} (lt : X → X → Bool) (o : IsStrictWeakOrder lt) where
 
   none_tie : (y z : X) (zs : List X) → lt y z ≡ true → NoneBefore lt z zs → filter (ties lt y) zs ≡ []
   none_tie y z [] h n = refl
-  none_tie y z (u ∷ zs) h n = ap (λ (t : Bool). cond t (u ∷ filter (ties lt y) zs) (filter (ties lt y) zs)) (no_tie y u (lower y z u h n.0)) ∙ none_tie y z zs h n.1
+  none_tie y z (u ∷ zs) h n = ap (λ (t : Bool). cond t (u ∷ filter (ties lt y) zs) (filter (ties lt y) zs))
+      (no_tie y u (lower y z u h n.0)) ∙ none_tie y z zs h n.1
 
   none_tie_all : (y z : X) (zs : List X) → lt y z ≡ true → NoneBefore lt z zs → filter (ties lt y) (z ∷ zs) ≡ []
-  none_tie_all y z zs h n = ap (λ (t : Bool). cond t (z ∷ filter (ties lt y) zs) (filter (ties lt y) zs)) (no_tie y z h) ∙ none_tie y z zs h n
+  none_tie_all y z zs h n
+      = ap (λ (t : Bool). cond t (z ∷ filter (ties lt y) zs) (filter (ties lt y) zs)) (no_tie y z h) ∙ none_tie y z zs h n
 
   own_tie : (y : X) → ties lt y y ≡ true
   own_tie y = ap (λ (t : Bool). not t && not t) (irrefl y)
@@ -79,17 +84,20 @@ module _ {X : Type 0} (lt : X → X → Bool) (o : IsStrictWeakOrder lt) where
   same_by (y ∷ ys) [] a b e = absurd (some_none y _ (sym (e y) ∙ first_ties y ys))
   same_by (y ∷ ys) (z ∷ zs) a b e = by_order (same_by ys zs a.1 b.1) (lt y z) (lt z y) refl refl
     where
-      by_order : (((x : X) → filter (ties lt x) ys ≡ filter (ties lt x) zs) → ys ≡ zs) → (s t : Bool) → lt y z ≡ s → lt z y ≡ t → y ∷ ys ≡ z ∷ zs
+      by_order : (((x : X) → filter (ties lt x) ys ≡ filter (ties lt x) zs) → ys ≡ zs) → (s t : Bool) → lt y z ≡ s → lt z y ≡ t
+          → y ∷ ys ≡ z ∷ zs
       by_order again true t p q = absurd (some_none y _ (sym (none_tie_all y z zs p b.0) ∙ (sym (e y) ∙ first_ties y ys)))
       by_order again false true p q = absurd (some_none z _ (sym (none_tie_all z y ys q a.0) ∙ (e z ∙ first_ties z zs)))
       by_order again false false p q =
-          let tie : filter (ties lt y) (z ∷ zs) ≡ z ∷ filter (ties lt y) zs = ap (λ (t : Bool). cond t (z ∷ filter (ties lt y) zs) (filter (ties lt y) zs)) (tied y z p q) in
+          let tie : filter (ties lt y) (z ∷ zs) ≡ z ∷ filter (ties lt y) zs
+          = ap (λ (t : Bool). cond t (z ∷ filter (ties lt y) zs) (filter (ties lt y) zs)) (tied y z p q) in
           let head : y ≡ z = heads y z _ _ (sym (first_ties y ys) ∙ (e y ∙ tie)) in
           let rest = again (λ x. tails (ties lt x y) y _ _ (e x ∙ ap (λ (w : X). filter (ties lt x) (w ∷ zs)) (sym head))) in
           ap (λ (w : X). w ∷ ys) head ∙ ap (λ (l : List X). z ∷ l) rest
 
   -- an item that is placed stands among its ties as in front of the list
-  exchanged : (p q : Bool) (a b : X) (l : List X) → (p ≡ true → q ≡ true → ⊥) → cond q (b ∷ cond p (a ∷ l) l) (cond p (a ∷ l) l) ≡ cond p (a ∷ cond q (b ∷ l) l) (cond q (b ∷ l) l)
+  exchanged : (p q : Bool) (a b : X) (l : List X) → (p ≡ true → q ≡ true → ⊥)
+      → cond q (b ∷ cond p (a ∷ l) l) (cond p (a ∷ l) l) ≡ cond p (a ∷ cond q (b ∷ l) l) (cond q (b ∷ l) l)
   exchanged true true a b l h = absurd (h refl refl)
   exchanged true false a b l h = refl
   exchanged false true a b l h = refl
@@ -108,7 +116,8 @@ module _ {X : Type 0} (lt : X → X → Bool) (o : IsStrictWeakOrder lt) where
   placed_ties x a [] = refl
   placed_ties x a (b ∷ r) = by_test (placed_ties x a r) (lt b a) refl
     where
-      by_test : filter (ties lt x) (placed lt a r) ≡ filter (ties lt x) (a ∷ r) → (t : Bool) → lt b a ≡ t → filter (ties lt x) (cond t (b ∷ placed lt a r) (a ∷ b ∷ r)) ≡ filter (ties lt x) (a ∷ b ∷ r)
+      by_test : filter (ties lt x) (placed lt a r) ≡ filter (ties lt x) (a ∷ r) → (t : Bool) → lt b a ≡ t
+          → filter (ties lt x) (cond t (b ∷ placed lt a r) (a ∷ b ∷ r)) ≡ filter (ties lt x) (a ∷ b ∷ r)
       by_test behind false h = refl
       by_test behind true h =
           ap (λ (l : List X). cond (ties lt x b) (b ∷ l) l) behind
@@ -152,16 +161,19 @@ module _ {X : Type 0} (lt : X → X → Bool) (o : IsStrictWeakOrder lt) where
   sorts xs ys s h = same_by ys (in_order lt xs) (up ys s) (up_in_order xs) (λ x. h x ∙ sym (stable x xs))
 
 -- an order by what f gives
-placed_map : {X Y : Type 0} (f : X → Y) (lt : Y → Y → Bool) (a : X) (l : List X) → map f (placed (λ x y. lt (f x) (f y)) a l) ≡ placed lt (f a) (map f l)
+placed_map : {X Y : Type 0} (f : X → Y) (lt : Y → Y → Bool) (a : X) (l : List X)
+    → map f (placed (λ x y. lt (f x) (f y)) a l) ≡ placed lt (f a) (map f l)
 unfolding placed
 placed_map f lt a [] = refl
 placed_map {X} f lt a (b ∷ r) = by_test (placed_map f lt a r) (lt (f b) (f a))
   where
-    by_test : map f (placed (λ x y. lt (f x) (f y)) a r) ≡ placed lt (f a) (map f r) → (t : Bool) → map f (cond t (b ∷ placed (λ x y. lt (f x) (f y)) a r) (a ∷ b ∷ r)) ≡ cond t (f b ∷ placed lt (f a) (map f r)) (f a ∷ f b ∷ map f r)
+    by_test : map f (placed (λ x y. lt (f x) (f y)) a r) ≡ placed lt (f a) (map f r) → (t : Bool) → map f
+        (cond t (b ∷ placed (λ x y. lt (f x) (f y)) a r) (a ∷ b ∷ r)) ≡ cond t (f b ∷ placed lt (f a) (map f r)) (f a ∷ f b ∷ map f r)
     by_test behind true = ap (λ l. f b ∷ l) behind
     by_test behind false = refl
 
-pub in_order_map : {X Y : Type 0} (f : X → Y) (lt : Y → Y → Bool) (l : List X) → map f (in_order (λ x y. lt (f x) (f y)) l) ≡ in_order lt (map f l)
+pub in_order_map : {X Y : Type 0} (f : X → Y) (lt : Y → Y → Bool) (l : List X)
+    → map f (in_order (λ x y. lt (f x) (f y)) l) ≡ in_order lt (map f l)
 unfolding in_order
 in_order_map f lt [] = refl
 in_order_map f lt (a ∷ l) = placed_map f lt a (in_order (λ x y. lt (f x) (f y)) l) ∙ ap (placed lt (f a)) (in_order_map f lt l)

@@ -12,7 +12,8 @@ loop-k-init c =
 
 pub loop-k-preserved : goal.loop-k-preserved
 loop-k-preserved c =
-    next_item (λ k. next_message c.args.n (k + 1)) c.loop-k.k (first_message c.args.n ∷ []) c.loop-k.messages c.push-in-loop-k.new.self c.loop-k.invariant
+    next_item (λ k. next_message c.args.n (k + 1)) c.loop-k.k (first_message c.args.n ∷ []) c.loop-k.messages c.push-in-loop-k.new.self
+    c.loop-k.invariant
     (one_is c.loop-k.messages c.push-in-loop-k.new.self c.in_ok-push-2.ensures.ok c.in_ok-next_message.ensures)
 
 pub returns : goal.returns

@@ -20,7 +20,8 @@ exports_from-requires c =
     record {
       areas_order = rw c.deref-3.ensures.value c.in_ok-areas.ensures.order;
       versions_order = rw c.deref-4.ensures.value c.in_ok-grouped.ensures.order;
-      shapes = subst (λ (l : List AreaVersion). All IsPrintableArea l) (sym areas) (areas_at_printable c.args.moment s.areas c.areas.ensures.sound);
+      shapes = subst (λ (l : List AreaVersion). All IsPrintableArea l) (sym areas)
+          (areas_at_printable c.args.moment s.areas c.areas.ensures.sound);
       items = subst (λ (l : List Version). All IsPrintableVersion l) (sym grouped)
           (all_in_order IsPrintableVersion (has_lower (λ (v : Version). v.holder)) (versions_at c.args.moment s.versions)
           (versions_at_printable c.args.moment s.versions c.history.ensures.shapes c.history.ensures.items));
@@ -40,4 +41,5 @@ returns c =
     let listed_areas = contents c.deref-3.result.now in
     let listed_versions = contents c.deref-4.result.now in
     IfOk-weaker c.exports_from.result (AreJoined (map from c.deref-5.result.now)) (IsExportText s c.args.moment)
-    (λ text joined. told_export s c.args.moment listed_areas listed_versions c.deref-5.result.now areas grouped holders joined) c.exports_from.ensures
+    (λ text joined. told_export s c.args.moment listed_areas listed_versions c.deref-5.result.now areas grouped holders joined)
+    c.exports_from.ensures

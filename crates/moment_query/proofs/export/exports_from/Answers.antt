@@ -8,10 +8,12 @@ loop-holder-init c = none_joined c.new-text.ensures
 
 pub loop-holder-preserved : goal.loop-holder-preserved
 loop-holder-preserved c =
-    more_joined (export_from (contents c.args.areas.now) (contents c.args.versions.now) c.args.moment) c.args.holders.now c.loop-holder.holder-index
+    more_joined (export_from (contents c.args.areas.now) (contents c.args.versions.now) c.args.moment) c.args.holders.now
+    c.loop-holder.holder-index
     c.holder-item.result c.loop-holder-test.true c.holder-item.is c.loop-holder.invariant c.in_ok-push_export.ensures
 
 pub returns : goal.returns
 returns c =
-    all_joined (export_from (contents c.args.areas.now) (contents c.args.versions.now) c.args.moment) c.args.holders.now c.loop-holder.holder-index
+    all_joined (export_from (contents c.args.areas.now) (contents c.args.versions.now) c.args.moment) c.args.holders.now
+    c.loop-holder.holder-index
     c.loop-holder-test.false c.loop-holder.invariant

@@ -4,4 +4,5 @@ use Rattle.moment_query.specs.Exports.{export_from, AreJoined}
 use Rattle.moment_query.proofs.export.exports_from.Given as goal
 
 abbrev pub invariant-loop-holder : goal.invariant-loop-holder
-invariant-loop-holder l = AreJoined (map (export_from (contents l.areas) (contents l.versions) l.moment) (take l.holder-index l.holders)) l.text
+invariant-loop-holder l
+    = AreJoined (map (export_from (contents l.areas) (contents l.versions) l.moment) (take l.holder-index l.holders)) l.text

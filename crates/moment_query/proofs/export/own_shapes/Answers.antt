@@ -9,7 +9,8 @@ pub returns-then-eq : goal.returns-then-eq
 returns-then-eq c =
     let at = ref_at c.args.areas.now c.loop-area.area-index c.area-item.result c.loop-area-test.true c.area-item.is in
     c.in_ok-shapes.ensures ∙ c.as_slice.ensures
-    ∙ ap shapes_or_none (find_first (is_own_area c.args.holder) (contents c.args.areas.now) c.loop-area.area-index c.area-item.result.now at.0 at.1
+    ∙ ap shapes_or_none
+    (find_first (is_own_area c.args.holder) (contents c.args.areas.now) c.loop-area.area-index c.area-item.result.now at.0 at.1
     (sym c.eq.ensures ∙ c.if-eq.true) c.loop-area.invariant)
 
 pub loop-area-preserved : goal.loop-area-preserved

@@ -20,7 +20,8 @@ slice_bounds-result-count c =
     c.partition_point-from.ensures.bound
 
 pub slice_bounds-result-start : goal.slice_bounds-result-start
-slice_bounds-result-start c = let turn : c.partition_point-from.result ≤ c.partition_point-to.result = slice_bounds-result-count c in search rules
+slice_bounds-result-start c = let turn : c.partition_point-from.result ≤ c.partition_point-to.result = slice_bounds-result-count c in search
+    rules
 
 pub returns : goal.returns
 returns c =

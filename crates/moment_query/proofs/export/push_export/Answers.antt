@@ -9,7 +9,8 @@ use Rattle.moment_query.proofs.export.push_export.Goals as goal
 pub print_message-requires : goal.print_message-requires
 print_message-requires c = record {
   printable = subst IsPrintable (sym c.in_ok-message.ensures)
-      (export_printable (contents c.args.areas.now) (contents c.args.versions.now) c.args.moment c.args.holder c.requires.shapes c.requires.items);
+      (export_printable (contents c.args.areas.now) (contents c.args.versions.now) c.args.moment c.args.holder c.requires.shapes
+      c.requires.items);
 }
 
 pub returns : goal.returns

@@ -12,6 +12,7 @@ loop-area-preserved c =
 
 pub returns : goal.returns
 returns c =
-    all_behind (λ (l : List AreaVersion). map (λ (a : AreaVersion). a.holder) (filter has_shapes l)) c.args.holders.now.items c.args.areas.now
+    all_behind (λ (l : List AreaVersion). map (λ (a : AreaVersion). a.holder) (filter has_shapes l)) c.args.holders.now.items
+    c.args.areas.now
     c.loop-area.area-index
     c.loop-area-test.false c.loop-area.invariant

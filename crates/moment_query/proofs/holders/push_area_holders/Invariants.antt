@@ -5,4 +5,5 @@ use Rattle.moment_query.specs.Exports.{has_shapes}
 use Rattle.moment_query.proofs.holders.push_area_holders.Given as goal
 
 abbrev pub invariant-loop-area : goal.invariant-loop-area
-invariant-loop-area l = l.holders.items ≡ l.fn.holders.items ++ map (λ (a : AreaVersion). a.holder) (filter has_shapes (contents (take l.area-index l.areas)))
+invariant-loop-area l
+    = l.holders.items ≡ l.fn.holders.items ++ map (λ (a : AreaVersion). a.holder) (filter has_shapes (contents (take l.area-index l.areas)))

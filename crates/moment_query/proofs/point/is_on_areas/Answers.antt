@@ -13,4 +13,5 @@ loop-place-preserved c = any_more (is_area_border c.args.moment (point_of c.args
     c.area_at.result.now (omega arith) c.area_at.ensures (sym c.is_on_area.ensures ∙ c.if-is_on_area.false) c.loop-place.invariant
 
 pub returns : goal.returns
-returns c = any_none (is_area_border c.args.moment (point_of c.args.point)) c.args.areas.now.areas c.loop-place.place (omega arith) c.loop-place.invariant
+returns c = any_none (is_area_border c.args.moment (point_of c.args.point)) c.args.areas.now.areas c.loop-place.place (omega arith)
+    c.loop-place.invariant

@@ -26,5 +26,6 @@ pub returns : goal.returns
 returns c =
     let s = c.args.core.now.state in
     let areas = ap contents c.deref.ensures.value ∙ (c.in_ok-areas.ensures.value ∙ ap (areas_at c.args.moment) c.areas.ensures.value) in
-    let versions = ap contents c.deref-2.ensures.value ∙ (c.in_ok-versions.ensures ∙ ap (versions_at c.args.moment) c.history.ensures.versions) in
+    let versions
+    = ap contents c.deref-2.ensures.value ∙ (c.in_ok-versions.ensures ∙ ap (versions_at c.args.moment) c.history.ensures.versions) in
     told_state s c.args.moment _ _ areas versions c.new-text.ensures c.in_ok-push_areas.ensures c.in_ok-push_versions.ensures

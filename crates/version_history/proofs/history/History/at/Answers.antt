@@ -20,4 +20,5 @@ returns c =
     let held = c.in_ok-found.ensures in
     ap contents is
     ∙ (in_order_map (λ (b : Bor Version). b.now) (has_lower (λ (v : Version). v.ident)) c.in_ok-found.found.items
-    ∙ ap (in_order (has_lower (λ (v : Version). v.ident))) (held ∙ ap (filter (holds_at c.args.moment)) (c.deref.ensures.value ∙ ap (λ (k : HistoryView). k.versions) c.self.view_is)))
+    ∙ ap (in_order (has_lower (λ (v : Version). v.ident)))
+    (held ∙ ap (filter (holds_at c.args.moment)) (c.deref.ensures.value ∙ ap (λ (k : HistoryView). k.versions) c.self.view_is)))

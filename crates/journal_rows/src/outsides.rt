@@ -1,4 +1,4 @@
-use super::*;
+use outside::{Call, ENTRY_BYTES, Failed, FaultFree, MemOutside, Outside, RealOutside};
 use std::test::Fail;
 use std::{fs, process};
 

@@ -1,4 +1,4 @@
-use super::*;
+use code_tables::{Table, known};
 
 // A table, its values as the catalogue has them in its order, and a value that only another table has.
 #[derive(Clone, Copy)]

@@ -1,5 +1,5 @@
-use super::*;
 use field_text::read_day;
+use imgeo_types::*;
 use rd_plane::{NoMemory, Pt, Ring, Rings};
 use std::alloc::{AllocError, Global};
 use std::collections::BTreeMap;
