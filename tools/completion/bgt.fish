@@ -7,4 +7,5 @@ complete -c bgt -n __fish_use_subcommand -a history -d 'all versions of an objec
 complete -c bgt -n __fish_use_subcommand -a point -d 'the ground object at a point'
 complete -c bgt -n __fish_use_subcommand -a export -d 'the map of a moment as messages'
 complete -c bgt -n __fish_use_subcommand -a trial -d 'a test map in memory'
+complete -c bgt -n __fish_use_subcommand -a rings -d 'whether each ring is simple and runs the right way round'
 complete -c bgt -n '__fish_seen_subcommand_from load state history point export' -F
