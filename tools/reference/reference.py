@@ -1,5 +1,5 @@
 #!/usr/bin/env python3
-"""A plain reference machine of `bgt`, written from the definitions alone.
+"""A plain reference machine of `bgt`, for one holder a message and catalogue profile 1.
 
 It follows the stated definitions word by word, with integers and fractions only, and
 makes no effort to be fast. A run is a pure function:
@@ -14,8 +14,625 @@ from dataclasses import dataclass, field, replace
 from fractions import Fraction
 from functools import lru_cache
 
-from plane import *
-from texts import *
+# ---------------------------------------------------------------- limits
+
+
+@dataclass(frozen=True)
+class Limits:
+    message_bytes: int = 268_435_456
+    mutations: int = 262_144
+    shape_rings: int = 256
+    ring_points: int = 4_096
+    area_points: int = 65_536
+    objects: int = 262_144
+    holders: int = 1_024
+    journal_bytes: int = 1 << 40
+    input_bytes: int = 1 << 40
+
+
+STANDARD = Limits()
+
+# ---------------------------------------------------------------- fields
+
+X_RANGE = (-100_000_000, 400_000_000)
+Y_RANGE = (200_000_000, 800_000_000)
+DAY_MS = 86_400_000
+
+RE_HOLDER = re.compile(r"[A-Z][0-9]{4}")
+RE_IDENT = re.compile(r"[A-Z][0-9]{4}\.[A-Za-z0-9]{32}")
+RE_DAY = re.compile(r"([0-9]{4})-([0-9]{2})-([0-9]{2})")
+RE_CLOCK = re.compile(r"([0-9]{2}):([0-9]{2}):([0-9]{2})(?:\.([0-9]{1,3}))?")
+RE_COORD = re.compile(r"(-?)([0-9]{1,9})(?:\.([0-9]{1,3}))?")
+RE_LEVEL = re.compile(r"-?[0-9]{1,3}")
+RE_CODE = re.compile(r"[A-Za-z0-9_-]{1,64}")
+
+
+def leap(year):
+    return year % 4 == 0 and (year % 100 != 0 or year % 400 == 0)
+
+
+def month_days(year, month):
+    return [31, 29 if leap(year) else 28, 31, 30, 31, 30, 31, 31, 30, 31, 30, 31][month - 1]
+
+
+def year_start(year):
+    """Day number of the first of January, counted from 1970-01-01."""
+    y = year - 1
+    whole = 365 * y + y // 4 - y // 100 + y // 400
+    return whole - 719_162
+
+
+def day_number(year, month, day):
+    return year_start(year) + sum(month_days(year, m) for m in range(1, month)) + day - 1
+
+
+def day_parts(number):
+    year = 1970 + number // 366 - 2 if number >= 0 else 1970 + number // 365 - 2
+    while year_start(year + 1) <= number:
+        year += 1
+    while year_start(year) > number:
+        year -= 1
+    rest = number - year_start(year)
+    month = 1
+    while rest >= month_days(year, month):
+        rest -= month_days(year, month)
+        month += 1
+    return year, month, rest + 1
+
+
+def read_day(text):
+    m = RE_DAY.fullmatch(text)
+    if not m:
+        return None
+    year, month, day = (int(g) for g in m.groups())
+    if not 1 <= month <= 12 or not 1 <= day <= month_days(year, month):
+        return None
+    return day_number(year, month, day)
+
+
+def print_day(number):
+    return "%04d-%02d-%02d" % day_parts(number)
+
+
+def read_moment(text):
+    """Milliseconds since 1970-01-01T00:00:00, or None."""
+    if len(text) < 11 or text[10] != "T":
+        return None
+    day = read_day(text[:10])
+    m = RE_CLOCK.fullmatch(text[11:])
+    if day is None or not m:
+        return None
+    hours, minutes, seconds = int(m[1]), int(m[2]), int(m[3])
+    if hours > 23 or minutes > 59 or seconds > 59:
+        return None
+    millis = int((m[4] or "").ljust(3, "0"))
+    return day * DAY_MS + ((hours * 60 + minutes) * 60 + seconds) * 1000 + millis
+
+
+def print_moment(moment):
+    day, ms = divmod(moment, DAY_MS)
+    seconds, ms = divmod(ms, 1000)
+    text = "%sT%02d:%02d:%02d" % (print_day(day), seconds // 3600, seconds // 60 % 60, seconds % 60)
+    return text + (".%03d" % ms if ms else "")
+
+
+def read_mm(text, bounds):
+    m = RE_COORD.fullmatch(text)
+    if not m:
+        return None
+    value = int(m[2]) * 1000 + int((m[3] or "").ljust(3, "0"))
+    value = -value if m[1] else value
+    return value if bounds[0] <= value <= bounds[1] else None
+
+
+def print_mm(value):
+    return "%s%d.%03d" % ("-" if value < 0 else "", abs(value) // 1000, abs(value) % 1000)
+
+
+def print_point(p):
+    return print_mm(p[0]) + " " + print_mm(p[1])
+
+
+def print_edge(e):
+    return print_point(e[0]) + " " + print_point(e[1])
+
+
+# ---------------------------------------------------------------- catalogue
+
+_VOORKOMEN_HARD = "gesloten_verharding open_verharding half_verhard onverhard"
+
+# kind -> attribute -> values; the first eleven kinds are dividing, the first six are plane.
+CATALOGUE = {
+    "wegdeel": {
+        "functie": "rijbaan_autosnelweg rijbaan_autoweg rijbaan_regionale_weg rijbaan_lokale_weg fietspad "
+                   "voetpad voetpad_op_trap ruiterpad parkeervlak spoorbaan baan_voor_vliegverkeer OV-baan "
+                   "overweg inrit woonerf voetgangersgebied transitie",
+        "fysiekVoorkomen": _VOORKOMEN_HARD + " transitie",
+    },
+    "ondersteunend_wegdeel": {
+        "functie": "berm verkeerseiland transitie",
+        "fysiekVoorkomen": _VOORKOMEN_HARD + " groenvoorziening transitie",
+    },
+    "begroeid_terreindeel": {
+        "fysiekVoorkomen": "loofbos gemengd_bos naaldbos heide struiken houtwal duin moeras rietland kwelder "
+                           "fruitteelt boomteelt bouwland grasland_agrarisch grasland_overig "
+                           "groenvoorziening transitie",
+    },
+    "onbegroeid_terreindeel": {
+        "fysiekVoorkomen": "erf " + _VOORKOMEN_HARD + " zand transitie",
+    },
+    "waterdeel": {"type": "zee waterloop watervlakte greppel_droge_sloot transitie"},
+    "ondersteunend_waterdeel": {"type": "oever_slootkant slik transitie"},
+    "pand": {},
+    "overig_bouwwerk": {
+        "type": "overkapping open_loods opslagtank bezinkbak windturbine lage_trafo bassin niet-bgt transitie",
+    },
+    "kunstwerkdeel": {
+        "type": "hoogspanningsmast gemaal perron sluis strekdam steiger stuw niet-bgt transitie",
+    },
+    "scheiding": {"type": "muur kademuur damwand geluidsscherm walbescherming hek niet-bgt transitie"},
+    "ongeclassificeerd_object": {},
+    "overbruggingsdeel": {"type": "dek landhoofd pijler sloof pyloon transitie"},
+    "tunneldeel": {},
+}
+CATALOGUE = {k: {a: v.split() for a, v in t.items()} for k, t in CATALOGUE.items()}
+KINDS = list(CATALOGUE)
+DIVIDING = set(KINDS[:11])
+PLANE = set(KINDS[:6])
+ATTRIBUTES = ["functie", "fysiekVoorkomen", "type", "bagpnd"]
+
+
+# ---------------------------------------------------------------- messages
+
+
+@dataclass(frozen=True)
+class Item:
+    kind: str
+    level: int
+    begin: int
+    codes: tuple  # of (attribute, code), in the order of ATTRIBUTES
+    rings: tuple = ()
+
+    def code(self, attribute):
+        return dict(self.codes).get(attribute)
+
+    def ground(self):
+        return self.kind in DIVIDING and self.level == 0
+
+
+@dataclass(frozen=True)
+class Mutation:
+    word: str  # T, W or V
+    ident: str
+    was: int = None
+    item: Item = None
+    day: int = None
+
+
+@dataclass(frozen=True)
+class Message:
+    holder: str
+    moment: int
+    area: tuple = None  # of shapes, each a tuple of rings
+    mutations: tuple = ()
+
+
+def check_item(item):
+    """The fault's text, or None."""
+    if not -99 <= item.level <= 99:
+        return "level"
+    tables = CATALOGUE[item.kind]
+    for attribute in ATTRIBUTES[:3]:
+        value = item.code(attribute)
+        if value is not None and value not in tables.get(attribute, ()):
+            return "code " + attribute
+        if value is None and attribute in tables:
+            return "missing " + attribute
+    pand = item.code("bagpnd")
+    if pand is not None and (item.kind != "pand" or not re.fullmatch("[0-9]{16}", pand)):
+        return "bagpnd"
+    return None
+
+
+# ---------------------------------------------------------------- reading texts
+
+
+def cut_texts(data):
+    """The texts of a stream and its tail."""
+    texts, start, at = [], 0, 0
+    while True:
+        end = data.find(b"\n", at)
+        if end < 0:
+            return texts, data[start:]
+        if data[at:end] == b"EINDE":
+            texts.append(data[start:end + 1])
+            start = end + 1
+        at = end + 1
+
+
+def read_points(fields):
+    if not fields or len(fields) % 2:
+        return None
+    points = []
+    for k in range(0, len(fields), 2):
+        x, y = read_mm(fields[k], X_RANGE), read_mm(fields[k + 1], Y_RANGE)
+        if x is None or y is None:
+            return None
+        points.append((x, y))
+    if len(points) >= 2 and points[-1] == points[0]:
+        points.pop()
+    return tuple(points)
+
+
+def read_item(fields):
+    """Kind, level, day and attributes."""
+    if len(fields) < 3 or fields[0] not in CATALOGUE or not RE_LEVEL.fullmatch(fields[1]):
+        return None
+    begin = read_day(fields[2])
+    if begin is None:
+        return None
+    codes, least = [], 0
+    for text in fields[3:]:
+        name, sign, value = text.partition("=")
+        if not sign or name not in ATTRIBUTES[least:] or not RE_CODE.fullmatch(value):
+            return None
+        least = ATTRIBUTES.index(name) + 1
+        codes.append((name, value))
+    return Item(fields[0], int(fields[1]), begin, tuple(codes))
+
+
+class Reader:
+    """Reads the lines of one text; `line` is False at the first line that no text goes on with."""
+
+    def __init__(self):
+        self.allowed = {"BERICHT"}
+        self.holder = self.moment = self.area = None
+        self.mutations = []
+        self.shapes = None  # where the next ring goes
+        self.arcs = []
+        self.lines = 0
+
+    def line(self, text):
+        self.lines += 1
+        fields = text.split(" ")
+        word, rest = fields[0], fields[1:]
+        plain = {"RINGBOOG": "RING", "GATBOOG": "GAT"}.get(word, word)
+        if plain not in self.allowed:
+            return False
+        if plain != word:
+            self.arcs.append(self.lines)
+        return getattr(self, "on_" + plain.lower())(rest)
+
+    def on_bericht(self, rest):
+        if len(rest) != 2 or not RE_HOLDER.fullmatch(rest[0]):
+            return False
+        self.holder, self.moment = rest[0], read_moment(rest[1])
+        self.allowed = {"GEBIED", "T", "W", "V", "EINDE"}
+        return self.moment is not None
+
+    def on_gebied(self, rest):
+        self.area = self.shapes = []
+        self.allowed = {"RING", "T", "W", "V", "EINDE"}
+        return not rest
+
+    def on_ring(self, rest):
+        points = read_points(rest)
+        self.shapes.append([points])
+        self.allowed = {"GAT", "T", "W", "V", "EINDE"}
+        if self.shapes is self.area:
+            self.allowed.add("RING")
+        return points is not None
+
+    def on_gat(self, rest):
+        points = read_points(rest)
+        self.shapes[-1].append(points)
+        return points is not None
+
+    def on_t(self, rest):
+        item = read_item(rest[1:])
+        return self.object("T", rest, None, item) if item else False
+
+    def on_w(self, rest):
+        was = read_moment(rest[1]) if len(rest) > 1 else None
+        item = read_item(rest[2:])
+        return self.object("W", rest, was, item) if item and was is not None else False
+
+    def object(self, word, rest, was, item):
+        self.shapes = []
+        self.mutations.append((word, rest[0], was, item, None, self.shapes))
+        self.allowed = {"RING"}
+        return bool(RE_IDENT.fullmatch(rest[0]))
+
+    def on_v(self, rest):
+        if len(rest) != 3 or not RE_IDENT.fullmatch(rest[0]):
+            return False
+        was, day = read_moment(rest[1]), read_day(rest[2])
+        self.mutations.append(("V", rest[0], was, None, day, None))
+        self.allowed = {"T", "W", "V", "EINDE"}
+        return was is not None and day is not None
+
+    def on_einde(self, rest):
+        self.allowed = set()
+        return not rest
+
+    def message(self):
+        freeze = lambda shapes: tuple(tuple(s) for s in shapes)
+        mutations = []
+        for word, ident, was, item, day, shapes in self.mutations:
+            if item:
+                item = replace(item, rings=freeze(shapes)[0])
+            mutations.append(Mutation(word, ident, was, item, day))
+        area = None if self.area is None else freeze(self.area)
+        return Message(self.holder, self.moment, area, tuple(mutations))
+
+
+def limit_fault(message, limits):
+    shapes = [m.item.rings for m in message.mutations if m.item]
+    if len(message.mutations) > limits.mutations:
+        return "mutations"
+    if any(len(s) > limits.shape_rings for s in shapes):
+        return "rings"
+    if any(len(r) > limits.ring_points for s in shapes for r in s):
+        return "points"
+    if sum(len(r) for s in message.area or () for r in s) > limits.area_points:
+        return "area"
+    return None
+
+
+def read_text(text, limits, with_bytes=True):
+    """The message, or the text of refusal 1 to 4."""
+    if with_bytes and len(text) > limits.message_bytes:
+        return "E1 TOOLONG"
+    lines = text.decode("latin-1").split("\n")
+    unended = lines.pop()
+    reader = Reader()
+    for number, line in enumerate(lines, 1):
+        if "\r" in line or not reader.line(line):
+            return "E2 SYNTAX %d" % number
+    if unended or reader.allowed:
+        return "E2 SYNTAX %d" % (len(lines) + 1)
+    if reader.arcs:
+        return "E3 ARC %d" % reader.arcs[0]
+    message = reader.message()
+    which = limit_fault(message, limits)
+    return "E4 LIMIT " + which if which else message
+
+
+# ---------------------------------------------------------------- canonical text
+
+
+def ring_line(word, ring):
+    closing = ring[:1] if len(ring) >= 2 and ring[-1] == ring[0] else ()
+    return word + "".join(" " + print_point(p) for p in ring + closing) + "\n"
+
+
+def shape_lines(shape):
+    return "".join(ring_line("GAT" if k else "RING", ring) for k, ring in enumerate(shape))
+
+
+def item_words(item):
+    words = [item.kind, str(item.level), print_day(item.begin)]
+    return " ".join(words + [a + "=" + c for a, c in item.codes])
+
+
+def mutation_lines(m):
+    if m.word == "T":
+        return "T %s %s\n" % (m.ident, item_words(m.item)) + shape_lines(m.item.rings)
+    if m.word == "W":
+        head = "W %s %s %s\n" % (m.ident, print_moment(m.was), item_words(m.item))
+        return head + shape_lines(m.item.rings)
+    return "V %s %s %s\n" % (m.ident, print_moment(m.was), print_day(m.day))
+
+
+def print_message(message):
+    text = "BERICHT %s %s\n" % (message.holder, print_moment(message.moment))
+    if message.area is not None:
+        text += "GEBIED\n" + "".join(shape_lines(s) for s in message.area)
+    return text + "".join(mutation_lines(m) for m in message.mutations) + "EINDE\n"
+
+
+# ---------------------------------------------------------------- plane
+
+
+def orient(a, b, c):
+    return (b[0] - a[0]) * (c[1] - a[1]) - (b[1] - a[1]) * (c[0] - a[0])
+
+
+def on_edge(p, e):
+    """p (whole or fractional) on the closed segment e."""
+    a, b = e
+    return (min(a[0], b[0]) <= p[0] <= max(a[0], b[0]) and min(a[1], b[1]) <= p[1] <= max(a[1], b[1])
+            and orient(a, b, p) == 0)
+
+
+def strictly_inside(p, e):
+    return p != e[0] and p != e[1] and on_edge(p, e)
+
+
+MANY = "many"
+
+
+def common(e, f):
+    """The common points of two segments: None, one point, or MANY."""
+    (a, b), (c, d) = e, f
+    if max(a[0], b[0]) < min(c[0], d[0]) or max(c[0], d[0]) < min(a[0], b[0]):
+        return None
+    if max(a[1], b[1]) < min(c[1], d[1]) or max(c[1], d[1]) < min(a[1], b[1]):
+        return None
+    oc, od, oa, ob = orient(a, b, c), orient(a, b, d), orient(c, d, a), orient(c, d, b)
+    if oc == 0 and od == 0:
+        low, high = max(min(a, b), min(c, d)), min(max(a, b), max(c, d))
+        return None if low > high else low if low == high else MANY
+    if (oc > 0) == (od > 0) and oc and od or (oa > 0) == (ob > 0) and oa and ob:
+        return None
+    for o, p in ((oc, c), (od, d), (oa, a), (ob, b)):
+        if o == 0:
+            return p
+    t = Fraction(oa, oa - ob)
+    return (a[0] + t * (b[0] - a[0]), a[1] + t * (b[1] - a[1]))
+
+
+def ends_only(e, f):
+    """The two have a common point only where it is an end of both."""
+    p = common(e, f)
+    return p is None or p is not MANY and p in e and p in f
+
+
+def ring_edges(ring):
+    return [(ring[k], ring[(k + 1) % len(ring)]) for k in range(len(ring))]
+
+
+@lru_cache(None)
+def shape_edges(shape):
+    return [e for ring in shape for e in ring_edges(ring)]
+
+
+def x_at(e, y):
+    (ax, ay), (bx, by) = e
+    return ax + (y - ay) * Fraction(bx - ax, by - ay)
+
+
+def sections(edges):
+    """For one height inside each strip of the plane: the crossing edges as (x, edge) by rising x.
+
+    Strips end at the heights of vertices and of crossings, so each face of the arrangement
+    has a point on one of these heights."""
+    heights = {p[1] for e in edges for p in e}
+    for k, e in enumerate(edges):
+        for f in edges[:k]:
+            p = common(e, f)
+            if p is not None and p is not MANY:
+                heights.add(p[1])
+    heights = sorted(heights)
+    for low, high in zip(heights, heights[1:]):
+        y = Fraction(low + high) / 2
+        yield y, sorted((x_at(e, y), k) for k, e in enumerate(edges)
+                        if min(e[0][1], e[1][1]) < y < max(e[0][1], e[1][1]))
+
+
+def gaps(crossings):
+    """Places k such that a point off all edges lies between crossing k - 1 and crossing k."""
+    return [k for k in range(1, len(crossings)) if crossings[k - 1][0] < crossings[k][0]]
+
+
+def winds_within(edges, allowed):
+    """Every point off the edges is wound a number of times that is in `allowed` (0 is)."""
+    for _, crossings in sections(edges):
+        up = [1 if edges[k][0][1] < edges[k][1][1] else -1 for _, k in crossings]
+        if any(sum(up[k:]) not in allowed for k in gaps(crossings)):
+            return False
+    return True
+
+
+# ---------------------------------------------------------------- soundness
+
+
+def ring_note(number, ring):
+    if len(ring) < 3:
+        return "few %d" % number
+    for k, p in enumerate(ring):
+        if p in ring[:k]:
+            return "repeat %d %d" % (number, k)
+    edges, n = ring_edges(ring), len(ring)
+    for i in range(n):
+        for j in range(i + 1, n):
+            p = common(edges[i], edges[j])
+            shared = ring[j] if j == i + 1 else ring[0] if i == 0 and j == n - 1 else None
+            if p is not None and p != shared:
+                return "meets %d %d %d" % (number, i, j)
+    return None
+
+
+@lru_cache(None)
+def shape_note(shape):
+    """The fault of a shape by the parts of soundness in their order, or None."""
+    for number, ring in enumerate(shape):
+        note = ring_note(number, ring)
+        if note:
+            return note
+    rings = [ring_edges(r) for r in shape]
+    for i in range(len(rings)):
+        for j in range(i + 1, len(rings)):
+            if not all(ends_only(e, f) for e in rings[i] for f in rings[j]):
+                return "rings %d %d" % (i, j)
+    if not winds_within(shape_edges(shape), (0, 1)):
+        return "wound"
+    for number, edges in enumerate(rings):
+        if not winds_within(edges, (0, -1) if number else (0, 1)):
+            return "turned %d" % number
+    return None
+
+
+def box(shape):
+    xs, ys = [p[0] for r in shape for p in r], [p[1] for r in shape for p in r]
+    return min(xs), min(ys), max(xs), max(ys)
+
+
+@lru_cache(None)
+def share(a, b):
+    """Some point off the edges of two sound shapes lies in both."""
+    ba, bb = box(a), box(b)
+    if ba[2] <= bb[0] or bb[2] <= ba[0] or ba[3] <= bb[1] or bb[3] <= ba[1]:
+        return False
+    edges = shape_edges(a) + shape_edges(b)
+    n = len(shape_edges(a))
+    for _, crossings in sections(edges):
+        mine = [k < n for _, k in crossings]
+        for k in gaps(crossings):
+            if sum(mine[k:]) % 2 and (len(mine) - k - sum(mine[k:])) % 2:
+                return True
+    return False
+
+
+@lru_cache(None)
+def own_pair_sound(a, b):
+    return all(ends_only(e, f) for e in shape_edges(a) for f in shape_edges(b)) and not share(a, b)
+
+
+# ---------------------------------------------------------------- maps
+
+
+def border_edges(area, parts):
+    edges = [e for s in parts for e in shape_edges(s)]
+    return edges + [(b, a) for s in area for a, b in shape_edges(s)]
+
+
+def unnoded(edges):
+    """Least vertex strictly inside a border edge, then the least such edge; or None."""
+    for p in sorted({p for e in edges for p in e}):
+        inside = [e for e in edges if strictly_inside(p, e)]
+        if inside:
+            return p, min(inside)
+    return None
+
+
+def unmatched(edges):
+    """Least border edge that occurs twice or whose reverse does not occur; or None."""
+    count = {}
+    for e in edges:
+        count[e] = count.get(e, 0) + 1
+    wrong = [e for e in count if count[e] > 1 or (e[1], e[0]) not in count]
+    return min(wrong) if wrong else None
+
+
+def tiled(area, parts):
+    """Each point off the border edges lies in one part where it lies in the area, else in none."""
+    shapes = list(parts) + list(area)
+    edges, owner = [], []
+    for number, shape in enumerate(shapes):
+        edges += shape_edges(shape)
+        owner += [number] * len(shape_edges(shape))
+    for _, crossings in sections(edges):
+        holds = [False] * len(shapes)
+        for k in range(len(crossings) - 1, 0, -1):
+            number = owner[crossings[k][1]]
+            holds[number] = not holds[number]
+            if crossings[k - 1][0] < crossings[k][0]:
+                wanted = 1 if any(holds[len(parts):]) else 0
+                if sum(holds[:len(parts)]) != wanted:
+                    return False
+    return True
+
 
 # ---------------------------------------------------------------- the machine
 

@@ -233,7 +233,7 @@ def wrong_word(rng, m, message, state, world):
     item = m.item or (kept.item if kept else None)
     if m.word != "T" and item:
         return [replace(m, word=rng.choice("TT" if rng.random() < .5 else "W"), item=item, was=was)]
-    return [Mutation("V", m.ident, was, day=today)] if not item or rng.random() < 0.5 else [replace(m, word="W", was=was)]
+    return [Mutation("V", m.ident, was, day=today)] if rng.random() < 0.5 else [replace(m, word="W", was=was)]
 
 
 @on_mutation
@@ -366,27 +366,6 @@ def more_ends(rng, message, state, world):
     return replace(message, mutations=message.mutations[:k] + (end,) + message.mutations[k:])
 
 
-def ended_again(rng, message, state, world):
-    """A mutation of an object that has ended: W, V, or T once more."""
-    ended = [v for v in state.versions if state.current(v.ident) is None and v.holder == message.holder]
-    if not ended:
-        return message
-    v = rng.choice(ended)
-    m = rng.choice([Mutation("V", v.ident, v.since, day=message.moment // ref.DAY_MS), Mutation("W", v.ident, v.since, v.item),
-                    Mutation("T", v.ident, item=v.item)])
-    return replace(message, mutations=message.mutations + (m,))
-
-
-def stale_moment(rng, message, state, world):
-    """A moment at or before the holder's last, or that of the last area."""
-    known = [state.last[message.holder]] if message.holder in state.last else []
-    known += [max(a.since for a in state.areas)] if state.areas else []
-    if not known:
-        return message
-    low = ref.read_moment("0000-01-01T00:00:00")
-    return replace(message, moment=max(low, rng.choice(known) + rng.choice([0, 0, -1, 1])))
-
-
 def doubly(rng, message, state, world):
     """A W of an object that the message leaves alone, as it stands, or moved to another level."""
     named = {m.ident for m in message.mutations}
@@ -399,7 +378,7 @@ def doubly(rng, message, state, world):
 
 
 SLIPS = [move_corner, move_corner, drop_corner, drop_straight, drop_straight, middle_corners, middle_corners, twice_named,
-         kind_of_w, beside, beside, ended_again, ended_again, ended_again, stale_moment, stale_moment, double_corner, middle_corner, middle_corner, reverse_ring, swap_corners,
+         kind_of_w, beside, beside, double_corner, middle_corner, middle_corner, reverse_ring, swap_corners,
          spike, more_holes, more_holes, fewer_holes, other_outer, move_shared, drop_mutation, drop_mutation,
          double_mutation, double_part, wrong_was, wrong_was, wrong_day, wrong_day, wrong_day, wrong_ident, wrong_ident, wrong_ident, wrong_word, wrong_word,
          wrong_kind, wrong_code, wrong_code, missing_code, wrong_pand, wrong_level, wrong_moment, wrong_holder,

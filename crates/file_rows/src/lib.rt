@@ -4,6 +4,8 @@
 #![tactic(auto)]
 
 #[cfg(test)]
+mod explain;
+#[cfg(test)]
 mod exports;
 #[cfg(test)]
 mod load;
