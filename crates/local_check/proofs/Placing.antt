@@ -211,7 +211,7 @@ found_at slots k p ident (Some b) x c i h e =
     one x y u = cc
 
 -- one object more, taken from the end of a list
-back_to_front : (coming rest : List LevelItem) (part : LevelItem) → coming ≡ rest ++ part ∷ [] → reverse coming ≡ part ∷ reverse rest
+pub back_to_front : (coming rest : List LevelItem) (part : LevelItem) → coming ≡ rest ++ part ∷ [] → reverse coming ≡ part ∷ reverse rest
 back_to_front coming rest part e = ap reverse e ∙ reverse-append rest (part ∷ [])
 
 module _ (old new : Places) (coming rest : List LevelItem) (part : LevelItem) (from : List LevelItem) (items : coming ≡ rest ++ part ∷ [])
@@ -231,22 +231,3 @@ module _ (old new : Places) (coming rest : List LevelItem) (part : LevelItem) (f
       let all = ap (λ (ps : List LevelItem). present old.slots.items ++ ps) (sym (back_to_front coming rest part items)) ∙ so_far in
       put_placed old new part slots here elsewhere
       (fresh (present old.slots.items) part (reverse rest) (subst (λ (ps : List LevelItem). AllPairs ◌≢◌ (map ident_in ps)) (sym all) different)) placed
-
-front_known : (n : Numbers) (xs ys : List LevelItem) → AllByRecursion (HasNumber n) (xs ++ ys) → AllByRecursion (HasNumber n) xs
-front_known n [] ys h = tt
-front_known n (x ∷ xs) ys h = (h.0, front_known n xs ys h.1)
-
-pub put_room : (old new : Places) (coming rest : List LevelItem) (part : LevelItem) → coming ≡ rest ++ part ∷ [] → new.slots.items ≡ old.slots.items ++ Some part ∷ []
-    → vec_capacity new.slots ≡ vec_capacity old.slots → ((q : List ℕ) → number_at new.numbers q ≡ number_at old.numbers q) → HasRoomFor old coming → HasRoomFor new rest
-put_room old new coming rest part items slots capacity same ready =
-    let known = recursion_from_All (HasNumber old.numbers) (rest ++ part ∷ []) (subst (All (HasNumber old.numbers)) items ready.known) in record {
-      room = omega (
-        arith,
-        ready.room,
-        capacity,
-        ap length items ∙ length-append rest (part ∷ []),
-        ap length slots ∙ length-append old.slots.items (Some part ∷ []),
-      );
-      known = All-from_recursion (HasNumber new.numbers) rest
-          (all_so (HasNumber old.numbers) (HasNumber new.numbers) rest (λ p s. ap is_some (same p.ident) ∙ s) (front_known old.numbers rest (part ∷ []) known));
-    }

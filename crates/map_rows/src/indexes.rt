@@ -66,6 +66,66 @@ fn boxes_meet(rt: HostRuntime) {
     }
 }
 
+// A box, one to look near, and whether they meet. A cell of the grid ends at 15,872 in x and at 39,680 in y.
+const CELLS: &[([i64; 4], [i64; 4], bool)] = &[
+    // in the corner of four cells, and one millimetre apart there
+    (
+        [14_872, 38_680, 15_872, 39_680],
+        [15_872, 39_680, 16_872, 40_680],
+        true,
+    ),
+    (
+        [14_872, 38_680, 15_871, 39_679],
+        [15_871, 39_679, 15_872, 39_680],
+        true,
+    ),
+    (
+        [14_872, 38_680, 15_871, 39_680],
+        [15_872, 39_680, 16_872, 40_680],
+        false,
+    ),
+    // in nine cells: told once
+    (
+        [0, 0, 100_000, 120_000],
+        [10_000, 10_000, 90_000, 110_000],
+        true,
+    ),
+    // of 64 cells in a row, and of 65
+    (
+        [0, 0, 4_144_639, 1000],
+        [4_144_639, 1000, 4_145_000, 2000],
+        true,
+    ),
+    (
+        [0, 0, 4_144_640, 1000],
+        [4_144_640, 1000, 4_145_000, 2000],
+        true,
+    ),
+    (
+        [0, 0, 4_144_640, 1000],
+        [4_144_641, 1000, 4_145_000, 2000],
+        false,
+    ),
+];
+
+#[test]
+fn boxes_meet_across_cells(rt: HostRuntime) {
+    let alloc = rt.alloc();
+    for (own, near, want) in CELLS {
+        for (one, other) in [(own, near), (near, own)] {
+            let mut index = BoxIndex::new(alloc);
+            let filed = bounds_at(*one).expect(&rt, "inside");
+            let given = bounds_at(*other).expect(&rt, "inside");
+            assert_eq!(rt; index.insert(2, filed), Ok(()));
+            let found = index.meeting(alloc, &given).expect(&rt, "memory");
+            assert_eq!(rt; found.as_slice() == [2u64].as_slice(), *want, "{one:?} {other:?}");
+            assert_eq!(rt; index.remove(2), Ok(()));
+            let left = index.meeting(alloc, &given).expect(&rt, "memory");
+            assert_eq!(rt; left.as_slice().is_empty(), true, "{one:?} {other:?}");
+        }
+    }
+}
+
 #[test]
 fn boxes_are_found(rt: HostRuntime) {
     let alloc = rt.alloc();
