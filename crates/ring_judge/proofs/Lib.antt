@@ -1,2 +1,3 @@
 pub mod LineFronts
 pub mod SoFar
+pub mod OneVerdict

@@ -5,6 +5,7 @@
 //! message and no map, and not how the replies reach the user.
 #![tactic(auto)]
 
+pub mod laws;
 mod lines;
 mod rings;
 mod verdict;

@@ -137,6 +137,30 @@ fn star(alloc: Global) -> Result<Ring, NoMemory> {
     ring(alloc, corners.as_slice())
 }
 
+// The point of the square around the origin that comes so many steps after its south-east corner.
+fn on_square(step: i64, half: i64) -> (i64, i64) {
+    let side = half.wrapping_mul(2);
+    let along = step.rem_euclid(side.max(1)).wrapping_sub(half);
+    let back = along.wrapping_neg();
+    match step.div_euclid(side.max(1)) {
+        0 => (half, along),
+        1 => (back, half),
+        2 => (half.wrapping_neg(), back),
+        _ => (along, half.wrapping_neg()),
+    }
+}
+
+// A star with a corner in each direction of such a square, eight times as many as half its side.
+fn large_star(alloc: Global, half: i64) -> Result<Ring, NoMemory> {
+    let mut corners = Vec::new(alloc);
+    for step in 0..half.wrapping_mul(8) {
+        let (x, y) = on_square(step, half);
+        let times = step.rem_euclid(2).wrapping_add(2);
+        corners.push((x.wrapping_mul(times), y.wrapping_mul(times)))?;
+    }
+    ring(alloc, corners.as_slice())
+}
+
 // The ring from this corner on, or, the other way round, up to it.
 fn rotated(alloc: Global, ring: &Ring, first: usize, is_back: bool) -> Result<Ring, NoMemory> {
     let mut corners = ring.as_slice().to_vec(alloc)?;
@@ -159,7 +183,27 @@ fn noted(alloc: Global, ring: &Ring, hole: Option<&Ring>) -> Result<Option<Shape
     note_of(alloc, &rings)
 }
 
-// Whether the ring, rotated so, is judged as it should be: by itself, as a shape, and by the sweep as a shape with a hole.
+// What a ring is by itself that runs counter-clockwise, or, the other way round, clockwise.
+fn fault_so(is_back: bool) -> Option<SingleFault> {
+    if is_back {
+        Some(SingleFault::Clockwise)
+    } else {
+        None
+    }
+}
+
+// Whether the ring, rotated so, is judged as it should be by itself.
+fn is_right_alone(
+    alloc: Global,
+    ring: &Ring,
+    first: usize,
+    is_back: bool,
+) -> Result<bool, NoMemory> {
+    let ring = rotated(alloc, ring, first, is_back)?;
+    Ok(fault_of(alloc, &ring)? == fault_so(is_back))
+}
+
+// Whether it is judged as it should be by itself, as a shape, and by the sweep as a shape with a hole.
 fn is_right(
     alloc: Global,
     ring: &Ring,
@@ -168,25 +212,38 @@ fn is_right(
     is_back: bool,
 ) -> Result<bool, NoMemory> {
     let ring = rotated(alloc, ring, first, is_back)?;
-    let (fault, note) = if is_back {
-        (Some(SingleFault::Clockwise), Some(ShapeNote::Wound))
+    let note = if is_back {
+        Some(ShapeNote::Wound)
     } else {
-        (None, None)
+        None
     };
     Ok(
-        fault_of(alloc, &ring)? == fault
+        fault_of(alloc, &ring)? == fault_so(is_back)
             && noted(alloc, &ring, None)? == note
             && noted(alloc, &ring, Some(hole))? == note,
     )
 }
 
-// The first rotation that is judged otherwise than it should be, each tried both ways round.
+// The same both ways round.
+fn are_right(alloc: Global, ring: &Ring, hole: &Ring, first: usize) -> Result<bool, NoMemory> {
+    Ok(is_right(alloc, ring, hole, first, false)? && is_right(alloc, ring, hole, first, true)?)
+}
+
+// The first rotation that is judged otherwise than it should be.
 fn first_wrong(alloc: Global, ring: &Ring, hole: &Ring) -> Result<Option<usize>, NoMemory> {
     for first in 0..ring.len() {
-        if !is_right(alloc, ring, hole, first, false)? {
+        if !are_right(alloc, ring, hole, first)? {
             return Ok(Some(first));
         }
-        if !is_right(alloc, ring, hole, first, true)? {
+    }
+    Ok(None)
+}
+
+// The same of four rotations of a long ring.
+fn some_wrong(alloc: Global, ring: &Ring, hole: &Ring) -> Result<Option<usize>, NoMemory> {
+    let count = ring.len();
+    for first in [0, 1, count / 2, count.saturating_sub(1)] {
+        if !are_right(alloc, ring, hole, first)? {
             return Ok(Some(first));
         }
     }
@@ -212,16 +269,52 @@ fn every_rotation(rt: HostRuntime) -> Result<(), NoMemory> {
     Ok(())
 }
 
-// The longest ring that a message may have, from some of its corners on, both ways round.
-#[test]
-fn a_long_ring(rt: HostRuntime) -> Result<(), NoMemory> {
-    let ring = band(rt.alloc(), 2048)?;
-    assert!(rt; ring.len() == 4096);
-    for first in [0, 1, 3000] {
-        let wound = fault_of(rt.alloc(), &rotated(rt.alloc(), &ring, first, false)?)?;
-        assert!(rt; wound.is_none(), "rotation {first}");
-        let wound = fault_of(rt.alloc(), &rotated(rt.alloc(), &ring, first, true)?)?;
-        assert!(rt; wound == Some(SingleFault::Clockwise), "rotation {first}");
+// The same by themselves alone.
+fn some_wrong_alone(alloc: Global, ring: &Ring) -> Result<Option<usize>, NoMemory> {
+    let count = ring.len();
+    for first in [0, 1, count / 2, count.saturating_sub(1)] {
+        let is_right = is_right_alone(alloc, ring, first, false)?
+            && is_right_alone(alloc, ring, first, true)?;
+        if !is_right {
+            return Ok(Some(first));
+        }
     }
+    Ok(None)
+}
+
+// Rings around the lengths at which the search for faults changes, and longer ones.
+#[test]
+fn long_rings(rt: HostRuntime) -> Result<(), NoMemory> {
+    let alloc = rt.alloc();
+    let hole = ring(alloc, &[(1, 1), (1, 2), (2, 1)])?;
+    for half in [24, 25, 32, 33, 128] {
+        let wrong = some_wrong(alloc, &spiral(alloc, half)?, &hole)?;
+        assert!(rt; wrong.is_none(), "spiral {half}, rotation {wrong:?}");
+        let wrong = some_wrong(alloc, &teeth(alloc, half.wrapping_sub(1))?, &hole)?;
+        assert!(rt; wrong.is_none(), "teeth {half}, rotation {wrong:?}");
+    }
+    for half in [6, 7, 8, 9, 32] {
+        let wrong = some_wrong(alloc, &large_star(alloc, half)?, &hole)?;
+        assert!(rt; wrong.is_none(), "star {half}, rotation {wrong:?}");
+    }
+    Ok(())
+}
+
+// The longest rings that a message may have, one of them by the sweep too, and a spiral that no line parts well.
+#[test]
+fn the_longest_rings(rt: HostRuntime) -> Result<(), NoMemory> {
+    let alloc = rt.alloc();
+    let saw = band(alloc, 2048)?;
+    assert!(rt; saw.len() == 4096);
+    let wrong = some_wrong_alone(alloc, &saw)?;
+    assert!(rt; wrong.is_none(), "band, rotation {wrong:?}");
+    let wrong = some_wrong_alone(alloc, &spiral(alloc, 512)?)?;
+    assert!(rt; wrong.is_none(), "spiral, rotation {wrong:?}");
+    let wrong = some_wrong_alone(alloc, &teeth(alloc, 2047)?)?;
+    assert!(rt; wrong.is_none(), "teeth, rotation {wrong:?}");
+    let wrong = some_wrong_alone(alloc, &large_star(alloc, 512)?)?;
+    assert!(rt; wrong.is_none(), "star, rotation {wrong:?}");
+    let hole = ring(alloc, &[(1, 1000), (1, 1002), (2, 1000)])?;
+    assert!(rt; is_right(alloc, &saw, &hole, 2048, false)?);
     Ok(())
 }
