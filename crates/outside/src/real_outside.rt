@@ -4,7 +4,7 @@ ghost use Rattle.outside.specs.Outside.{NoneFell, Rose};
 
 use crate::fault::Failed;
 use crate::traits::Outside;
-use std::fs::{File, Files, OpenOptions};
+use std::fs::{File, Files, OpenOptions, metadata};
 use std::io;
 use std::io::{ErrorKind, Read, Seek, SeekFrom, Write};
 use std::marker::Model;
@@ -41,11 +41,22 @@ impl<'a, R: Runtime + Files<File = File>> Model for RealOutside<'a, R> {
     } };
 }
 
+// Who opens a pipe waits for its other end, and a device may act on it, so neither is opened. What is missing may be made.
+fn refuse_other_than_file<R: Files<File = File>>(rt: &R, path: &str) -> io::Result<()> {
+    match metadata(rt, path) {
+        Ok(found) if found.is_file() => Ok(()),
+        Ok(_) => Err(io::Error::from(ErrorKind::InvalidInput)),
+        Err(e) if e.kind() == ErrorKind::NotFound => Ok(()),
+        Err(e) => Err(e),
+    }
+}
+
 // The lock comes before the first byte is read, and goes with the file when the program ends.
 fn open<R: Files<File = File>>(rt: &R, path: Option<&str>, create: bool) -> io::Result<File> {
     let Some(path) = path else {
         return Err(io::Error::from(ErrorKind::NotFound));
     };
+    refuse_other_than_file(rt, path)?;
     let file = OpenOptions::new()
         .read(true)
         .write(create)
