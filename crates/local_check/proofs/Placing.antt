@@ -2,23 +2,21 @@
 use Rattle.std.proofs.Common.{◌≡◌, ◌≢◌, ◌<◌, ◌≤◌, ◌+◌, ℕ, zero, suc, Bool, true, false, cond, not, List, [], ◌∷◌, ◌++◌, map, length, get_or, take, refl, sym, ap, ◌∙◌, arith, inl, inr, subst}
 use Rattle.std.specs.Borrow.{Bor}
 use Rattle.std.specs.Option.{option_copied}
-use Rattle.std.specs.Prelude.{◌⊎◌, IfSome, is_some, vec_capacity, ◌||◌, Option, Some, None, option_to_list, slice_index_or, slice_set, reverse}
-use Rattle.std.specs.List.{All, AllByRecursion, AllPairs, Contains, list_any}
+use Rattle.std.specs.Prelude.{◌⊎◌, IfSome, ◌||◌, Option, Some, None, option_to_list, slice_index_or, slice_set, reverse}
+use Rattle.std.specs.List.{AllPairs, Contains, list_any}
 use Rattle.std.specs.Str.{bytes_eq}
 use Rattle.std.proofs.lemmas.Bool.{cases_Bool}
 use Rattle.std.proofs.lemmas.List.{append_assoc, get_or_default, length-append, reverse-append, take_more}
-use Rattle.std.proofs.lemmas.List.Elements.{All-from_recursion, recursion_from_All}
 use Rattle.std.proofs.lemmas.List.Concat.{flat_map-append}
 use Rattle.std.proofs.lemmas.Slice.Eq.{bytes_eq-Decides}
-use Rattle.rd_plane.proofs.Members.{all_so, contains_cases, contains_head, contains_tail}
+use Rattle.rd_plane.proofs.Members.{contains_cases, contains_head, contains_tail}
 use Rattle.level_rules.specs.declared.item.LevelItem.{LevelItem}
 use Rattle.local_check.specs.Borders.{ident_in}
 use Rattle.local_check.specs.Maps.{leaves, staying}
 use Rattle.local_check.specs.declared.numbers.Numbers.{Numbers}
 use Rattle.local_check.specs.declared.places.Places.{Places}
-use Rattle.local_check.specs.Numbered.{number_at, place_at}
-use Rattle.local_check.proofs.Numbering.{HasNumber}
-use Rattle.local_check.specs.Placed.{HasRoomFor, IsPlaced, at_place, cleared, present}
+use Rattle.local_check.specs.Numbered.{place_at}
+use Rattle.local_check.specs.Placed.{IsPlaced, at_place, cleared, present}
 
 -- ---- places and the objects at them
 pub present-append : (xs ys : List (Option LevelItem)) → present (xs ++ ys) ≡ present xs ++ present ys
@@ -241,7 +239,7 @@ found_at slots k p ident (Some b) x c i h e =
     one x y u = cc
 
 -- one object more, taken from the end of a list
-back_to_front : (coming rest : List LevelItem) (part : LevelItem) → coming ≡ rest ++ part ∷ [] → reverse coming ≡ part ∷ reverse rest
+pub back_to_front : (coming rest : List LevelItem) (part : LevelItem) → coming ≡ rest ++ part ∷ [] → reverse coming ≡ part ∷ reverse rest
 back_to_front coming rest part e = ap reverse e ∙ reverse-append rest (part ∷ [])
 
 module _ (old new : Places) (coming rest : List LevelItem) (part : LevelItem) (from : List LevelItem) (items : coming ≡ rest ++ part ∷ [])
@@ -262,26 +260,3 @@ module _ (old new : Places) (coming rest : List LevelItem) (part : LevelItem) (f
       put_placed old new part slots more here elsewhere
       (fresh (present old.slots.items) part (reverse rest)
       (subst (λ (ps : List LevelItem). AllPairs ◌≢◌ (map ident_in ps)) (sym all) different)) placed
-
-front_known : (n : Numbers) (xs ys : List LevelItem) → AllByRecursion (HasNumber n) (xs ++ ys) → AllByRecursion (HasNumber n) xs
-front_known n [] ys h = tt
-front_known n (x ∷ xs) ys h = (h.0, front_known n xs ys h.1)
-
-pub put_room : (old new : Places) (coming rest : List LevelItem) (part : LevelItem) → coming ≡ rest ++ part ∷ []
-    → new.slots.items ≡ old.slots.items ++ Some part ∷ []
-    → vec_capacity new.slots ≡ vec_capacity old.slots → ((q : List ℕ) → number_at new.numbers q ≡ number_at old.numbers q)
-    → HasRoomFor old coming → HasRoomFor new rest
-put_room old new coming rest part items slots capacity same ready =
-    let known = recursion_from_All (HasNumber old.numbers) (rest ++ part ∷ []) (subst (All (HasNumber old.numbers)) items ready.known)
-    in record {
-      room = omega (
-        arith,
-        ready.room,
-        capacity,
-        ap length items ∙ length-append rest (part ∷ []),
-        ap length slots ∙ length-append old.slots.items (Some part ∷ []),
-      );
-      known = All-from_recursion (HasNumber new.numbers) rest
-          (all_so (HasNumber old.numbers) (HasNumber new.numbers) rest (λ p s. ap is_some (same p.ident) ∙ s)
-          (front_known old.numbers rest (part ∷ []) known));
-    }

@@ -15,8 +15,12 @@ use Rattle.rd_plane.proofs.Members.{contains_head, contains_tail, contains_cases
 use Rattle.level_rules.specs.declared.item.LevelItem.{LevelItem}
 use Rattle.level_rules.specs.Levels.{BreakLevels, BreaksIn, BreaksNew, BreaksWith, HasBoxes, IsIndexOf, IsLeastFault, IsLevelled, LevelsHold, Stays, pair_cmp}
 use Rattle.level_rules.proofs.Newest.{least_of_all, none_of_all, some_at}
+use Rattle.level_rules.proofs.Searched.{share_boxes}
 use Rattle.level_rules.proofs.Spoken.{boxes_index, first_levelled, second_levelled}
+use Rattle.local_check.specs.Kept.{AreBoxed, FindsNear}
 use Rattle.local_check.specs.Maps.{leaves, staying}
+use Rattle.local_check.specs.Placed.{at_place, present}
+use Rattle.local_check.proofs.Placing.{contains_at}
 
 abbrev Pair : Type 0
 Pair = List ℕ × List ℕ
@@ -103,40 +107,74 @@ stays_from parts index leaving mate x s c =
       kept = λ l. both_ways (not (leaves leaving mate)) (ap not (any_from mate.ident leaving l)) k.1;
     }
 
--- ---- pairs with a coming part
-new_with : (coming parts : List LevelItem) (index : fin.FinMap nat_cmp Box) (leaving : List (List ℕ)) (pair : Pair) → IsIndexOf parts index
-    → BreaksNew coming parts index leaving pair → BreaksWith coming (staying leaving parts) pair
-new_with coming parts index leaving pair x b = elim b.case [
-  | inl k ↦ inl k
-  | inr k ↦ inr (record { item = k.0; mate = k.1; new = k.2; stays = stays_to parts index leaving k.1 x k.3; breaks = k.4; is = k.5 })
-]
+-- ---- mates: parts among which are those that break the rule with a coming part
+pub record AreMates (coming parts mates : List LevelItem) : Type 0 where
+  pub those : (p : LevelItem) → Contains mates p → Contains parts p
+  pub all : (item p : LevelItem) → Contains coming item → BreakLevels item p → Contains parts p → Contains mates p
 
-with_new : (coming parts : List LevelItem) (index : fin.FinMap nat_cmp Box) (leaving : List (List ℕ)) (pair : Pair)
-    → HasBoxes parts index (length parts)
-    → BreaksWith coming (staying leaving parts) pair → BreaksNew coming parts index leaving pair
-with_new coming parts index leaving pair x b = record {
-  case = elim b [
-    | inl k ↦ inl k
-    | inr k ↦ inr
-        (k.item, k.mate, k.new, stays_from parts index leaving k.mate x (second_levelled k.item k.mate k.breaks) k.stays, k.breaks, k.is)
-  ];
+-- those whose boxes meet that of a coming part are enough
+pub mates_near : (boxes : fin.FinMap nat_cmp Box) (slots : List (Option LevelItem)) (near : List ℕ) (coming mates : List LevelItem)
+    → AreBoxed boxes slots
+    → ((part : LevelItem) → Contains coming part → IsLevelled part → FindsNear boxes near part.shape)
+    → ((p : LevelItem) → Contains mates p → Contains (present slots) p)
+    → ((k : ℕ) (p : LevelItem) → Contains near k → at_place slots k ≡ Some p → Contains mates p) → AreMates coming (present slots) mates
+mates_near boxes slots near coming mates boxed found those all = record {
+  those = those;
+  all = λ item p c b d.
+      let k = contains_at slots p d in
+      let h = boxed k.0 p k.1 in
+      let f = found item c (first_levelled item p b) in
+      all k.0 p (f.found k.0 h.box h.is (share_boxes item p f.box h.box b f.least h.least)) k.1;
 }
+
+-- ---- pairs with a coming part
+module _ (coming parts mates : List LevelItem) (index : fin.FinMap nat_cmp Box) (leaving : List (List ℕ))
+    (m : AreMates coming parts mates) where
+  new_with : (pair : Pair) → IsIndexOf mates index → BreaksNew coming mates index leaving pair
+      → BreaksWith coming (staying leaving parts) pair
+  new_with pair x b = elim b.case [
+    | inl k ↦ inl k
+    | inr k ↦
+        let s = filter_to (λ p. not (leaves leaving p)) mates k.1 (stays_to mates index leaving k.1 x k.3) in
+        inr (record {
+          item = k.0;
+          mate = k.1;
+          new = k.2;
+          stays = filter_from (λ p. not (leaves leaving p)) parts k.1
+              (m.those k.1 s.0) s.1;
+          breaks = k.4;
+          is = k.5;
+        })
+  ]
+
+  with_new : (pair : Pair) → HasBoxes mates index (length mates) → BreaksWith coming (staying leaving parts) pair
+      → BreaksNew coming mates index leaving pair
+  with_new pair x b = record {
+    case = elim b [
+      | inl k ↦ inl k
+      | inr k ↦
+          let s = filter_to (λ p. not (leaves leaving p)) parts k.mate k.stays in
+          let near = filter_from (λ p. not (leaves leaving p)) mates k.mate (m.all k.item k.mate k.new k.breaks s.0) s.1 in
+          inr (k.item, k.mate, k.new, stays_from mates index leaving k.mate x (second_levelled k.item k.mate k.breaks) near, k.breaks, k.is)
+    ];
+  }
 
 stay_hold : (leaving : List (List ℕ)) (parts : List LevelItem) → LevelsHold parts → LevelsHold (staying leaving parts)
 stay_hold leaving parts h = AllPairs-filter (λ x y. BreakLevels x y → ⊥) (λ p. not (leaves leaving p)) parts h
 
-pub pair_after : (coming parts : List LevelItem) (index : fin.FinMap nat_cmp Box) (leaving : List (List ℕ)) (found : Option Pair)
-    → LevelsHold parts
-    → HasBoxes parts index (length parts) →
-    MatchOption found ((pair : Pair) → BreaksNew coming parts index leaving pair → ⊥) (IsLeastFault coming parts index leaving)
+pub pair_after : (coming parts mates : List LevelItem) (index : fin.FinMap nat_cmp Box) (leaving : List (List ℕ))
+    (found : Option Pair) → LevelsHold parts
+    → AreMates coming parts mates → HasBoxes mates index (length mates) →
+    MatchOption found ((pair : Pair) → BreaksNew coming mates index leaving pair → ⊥) (IsLeastFault coming mates index leaving)
     → MatchOption found (LevelsHold (staying leaving parts ++ coming)) (IsLeast pair_cmp (BreaksIn (staying leaving parts ++ coming)))
-pair_after coming parts index leaving None h x n = none_of_all (staying leaving parts) coming (stay_hold leaving parts h) (λ pair b. n pair
-    (with_new coming parts index leaving pair x b))
-pair_after coming parts index leaving (Some p) h x l = least_of_all (staying leaving parts) coming p (stay_hold leaving parts h)
+pair_after coming parts mates index leaving None h m x n = none_of_all (staying leaving parts) coming (stay_hold leaving parts h)
+    (λ pair b. n pair
+    (with_new coming parts mates index leaving m pair x b))
+pair_after coming parts mates index leaving (Some p) h m x l = least_of_all (staying leaving parts) coming p (stay_hold leaving parts h)
     (record {
-      has = new_with coming parts index leaving p (boxes_index parts index (length parts) (omega arith) x) l.has;
+      has = new_with coming parts mates index leaving m p (boxes_index mates index (length mates) (omega arith) x) l.has;
       least = λ b u. l.least b
-          (with_new coming parts index leaving b x u);
+          (with_new coming parts mates index leaving m b x u);
     })
 
 -- where the rule speaks of no part that comes

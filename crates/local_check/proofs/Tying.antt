@@ -13,6 +13,7 @@ use Rattle.local_check.specs.declared.map.Map.{Map}
 use Rattle.local_check.specs.declared.map.Tried.{Tried}
 use Rattle.local_check.specs.declared.places.Places.{Places}
 use Rattle.local_check.specs.Borders.{AreTied, IsLinked}
+use Rattle.local_check.specs.Kept.{AreBoxed, AreBoxedFrom}
 use Rattle.local_check.specs.Maps.{changed}
 use Rattle.local_check.specs.MapRules.{AreRightMaps, IsRightMap}
 use Rattle.local_check.specs.Numbered.{IsGrown, IsNumbering, KeepsPlaces, number_at}
@@ -40,20 +41,23 @@ back_twice xs = reverse-reverse xs
 
 pub room_for : (parts : Places) (t : Tried) (change : Change) → change_of t ≡ change
     → vec_len parts.slots + length change.coming ≤ vec_capacity parts.slots
-    → All (λ p. IsSome (number_at parts.numbers p.ident)) change.coming → HasRoomFor parts t.coming.items
-room_for parts t change e room known =
+    → All (λ p. IsSome (number_at parts.numbers p.ident)) change.coming
+    → AreBoxedFrom parts.boxes (length parts.slots.items) change.coming → HasRoomFor parts t.coming.items
+room_for parts t change e room known boxes =
     let same : reverse t.coming.items ≡ change.coming = ap (λ (c : Change). c.coming) e in record {
       room = omega (arith, room, ap (λ (ps : List LevelItem). length ps) same, length-reverse t.coming.items, parts.slots.ok.0);
       known = subst (All (λ (p : LevelItem). IsSome (number_at parts.numbers p.ident))) (back_twice t.coming.items)
           (back_all (λ (p : LevelItem). IsSome (number_at parts.numbers p.ident)) (reverse t.coming.items)
           (subst (All (λ (p : LevelItem). IsSome (number_at parts.numbers p.ident))) (sym same) known));
+      boxes = subst (AreBoxedFrom parts.boxes (length parts.slots.items)) (sym same) boxes;
     }
 
 -- ---- the places are made ready
 module _ (now : Map) (parts : Places) (tried : Option Tried) (ground : Standing) (idle : tried ≡ None) (holds : Holds now tried ground)
     (slots : parts.slots.items ≡ now.parts.slots.items) (numbering : IsNumbering parts.numbers)
     (grown : IsGrown now.parts.numbers parts.numbers)
-    (places : KeepsPlaces now.parts.numbers parts.numbers) (count : parts.count ≡ now.parts.count) where
+    (places : KeepsPlaces now.parts.numbers parts.numbers) (count : parts.count ≡ now.parts.count)
+    (boxes : AreBoxed now.parts.boxes now.parts.slots.items → AreBoxed parts.boxes parts.slots.items) where
   abbrev next : Map
   next = record { area = now.area; parts = parts }
 
@@ -71,6 +75,9 @@ module _ (now : Map) (parts : Places) (tried : Option Tried) (ground : Standing)
     at = λ k p h. places p.ident k (at_rest.2.placed.at k p (sym (ap (λ (xs : List (Option LevelItem)). at_place xs k) slots) ∙ h));
     count = count ∙ at_rest.2.placed.count ∙ sym (ap (λ (xs : List (Option LevelItem)). length (present xs)) slots);
   }
+
+  pub still_boxed : AreBoxed parts.boxes parts.slots.items
+  still_boxed = boxes at_rest.2.boxed
 
   pub right_now : IsRightMap (parts_of next)
   right_now = subst IsRightMap (sym same_map) at_rest.0.now
@@ -93,7 +100,7 @@ module _ (now : Map) (parts : Places) (tried : Option Tried) (ground : Standing)
       now = subst (λ (xs : List (Option HalfEdge)). IsLinked parts.numbers (standing xs) (parts_of next)) (sym kept) linked_before;
       next = subst (λ (xs : List (Option HalfEdge)). IsLinked parts.numbers (standing xs) (parts_of next)) (sym here) linked_now;
     },
-    record { placed = still_placed; room = tt },
+    record { placed = still_placed; boxed = still_boxed; room = tt },
   )
 
   -- the change is tried
@@ -108,15 +115,16 @@ module _ (now : Map) (parts : Places) (tried : Option Tried) (ground : Standing)
       now = subst (λ (xs : List (Option HalfEdge)). IsLinked parts.numbers (standing xs) (parts_of next)) (sym kept) linked_before;
       next = linked;
     },
-    record { placed = still_placed; room = room },
+    record { placed = still_placed; boxed = still_boxed; room = room },
   )
 
 -- ---- the tried change is made
 pub committed : (now next : Map) (t : Tried) (ground g : Standing) → Holds now (Some t) ground
     → parts_of next ≡ changed (change_of t) (parts_of now) → IsPlaced next.parts
+    → AreBoxed next.parts.boxes next.parts.slots.items
     → ((q : List ℕ) → number_at next.parts.numbers q ≡ number_at now.parts.numbers q) → next.parts.numbers.next ≡ now.parts.numbers.next
     → g.slots ≡ ground.slots → g.kept ≡ ground.slots → g.tried ≡ false → Holds next None g
-committed now next t ground g holds value placed same count slots kept flag =
+committed now next t ground g holds value placed boxed same count slots kept flag =
     let linked = subst (IsLinked next.parts.numbers (stands ground)) (sym value)
     (grown_linked now.parts.numbers next.parts.numbers (same_numbers now.parts.numbers next.parts.numbers same) (stands ground)
     (changed (change_of t) (parts_of now)) holds.1.next) in (
@@ -127,5 +135,5 @@ committed now next t ground g holds value placed same count slots kept flag =
         now = subst (λ (xs : List (Option HalfEdge)). IsLinked next.parts.numbers (standing xs) (parts_of next)) (sym kept) linked;
         next = subst (λ (xs : List (Option HalfEdge)). IsLinked next.parts.numbers (standing xs) (parts_of next)) (sym slots) linked;
       },
-      record { placed = placed; room = tt },
+      record { placed = placed; boxed = boxed; room = tt },
     )

@@ -7,6 +7,7 @@ use Rattle.local_check.specs.declared.change.Change.{Change}
 use Rattle.local_check.specs.declared.map.Map.{Map}
 use Rattle.local_check.specs.declared.map.Tried.{Tried}
 use Rattle.local_check.specs.declared.places.Places.{Places}
+use Rattle.local_check.specs.Kept.{AreBoxed, AreBoxedFrom}
 use Rattle.local_check.specs.Maps.{HolderParts, MapView, changed}
 use Rattle.local_check.specs.Numbered.{number_at, place_at}
 
@@ -28,10 +29,11 @@ pub record IsPlaced (s : Places) : Type 0 where
   pub at : (k : ℕ) (p : LevelItem) → at_place s.slots.items k ≡ Some p → place_at s.numbers p.ident ≡ Some k
   pub count : s.count ≡ length (present s.slots.items)
 
--- there is room for these objects, and each has a number
+-- there is room for these objects, the last of which comes first, each has a number, and their boxes are kept
 pub record HasRoomFor (s : Places) (coming : List LevelItem) : Type 0 where
   pub room : length s.slots.items + length coming ≤ vec_capacity s.slots
   pub known : All (λ p. IsSome (number_at s.numbers p.ident)) coming
+  pub boxes : AreBoxedFrom s.boxes (length s.slots.items) (reverse coming)
 
 -- what contracts see of a map
 abbrev pub parts_of : Map → HolderParts
@@ -45,7 +47,8 @@ change_of t = record { area = t.area; leaving = t.leaving; coming = reverse t.co
 abbrev pub view_of : Map → Option Tried → MapView
 view_of now tried = record { now = parts_of now; tried = option_map (λ t. changed (change_of t) (parts_of now)) tried }
 
--- places are kept, and there is room for what a tried change brings
+-- places and boxes are kept, and there is room for what a tried change brings
 pub record IsReadyFor (m : Map) (tried : Option Tried) : Type 0 where
   pub placed : IsPlaced m.parts
+  pub boxed : AreBoxed m.parts.boxes m.parts.slots.items
   pub room : IfSome tried (λ t. HasRoomFor m.parts t.coming.items)

@@ -1,24 +1,31 @@
 //! The objects of a map, each at a place of its own.
 
-ghost use Rattle.std.specs.Prelude.{◌≡◌, ◌≢◌, ◌≤◌, ◌+◌, ◌<◌, [], ◌∷◌, ◌++◌, ℕ, List, Some, All, Contains, IfNone, IfSome, IsSome, IfOk, OnOk, length, map, reverse, vec_len, vec_capacity};
+ghost use Rattle.std.specs.Prelude.{◌≡◌, ◌≢◌, ◌⊎◌, ◌≤◌, ◌+◌, ◌<◌, [], ◌∷◌, ◌++◌, ℕ, List, Some, All, Contains, IfNone, IfSome, IsSome, IfOk, OnOk, length, map, reverse, vec_len, vec_capacity};
+ghost use Rattle.std.specs.FinMap as map_of;
 ghost use Rattle.local_check.specs.Borders.{AreDifferent};
+ghost use Rattle.local_check.specs.Kept.{AreBoxed, AreBoxedFrom};
 ghost use Rattle.local_check.specs.Maps.{staying};
 ghost use Rattle.local_check.specs.Numbered.{IsGrown, IsNumbering, KeepsPlaces, number_at, place_at};
 ghost use Rattle.local_check.specs.Placed.{HasRoomFor, IsPlaced, at_place, cleared, present};
 
+use crate::boxes::{drop_box, put_boxes};
 use crate::numbers::Numbers;
+use box_index::BoxIndex;
 use imgeo_types::Ident;
 use level_rules::{LevelItem, LevelItems};
 use rd_plane::NoMemory;
 use std::alloc::Global;
+use std::collections::BTreeSet;
 
-/// The objects in order of coming, and what is kept of their identifications. The place of an object that went stays empty.
+/// The objects in order of coming, and what is kept of their identifications and of their boxes. The place of an object that
+/// went stays empty.
 #[derive(Drop)]
 pub(crate) struct Places {
     pub slots: Vec<Option<LevelItem>>,
     pub numbers: Numbers,
     /// How many objects stand.
     pub count: usize,
+    pub boxes: BoxIndex,
 }
 
 impl Places {
@@ -32,6 +39,7 @@ impl Places {
             slots: Vec::new(alloc),
             numbers: Numbers::new(alloc),
             count: 0,
+            boxes: BoxIndex::new(alloc),
         }
     }
 
@@ -69,8 +77,11 @@ impl Places {
         ensures numbers { self.new.numbers ≡ self.old.numbers }
         ensures len { vec_len self.new.slots ≡ vec_len self.old.slots }
         ensures capacity { vec_capacity self.new.slots ≡ vec_capacity self.old.slots }
+        ensures boxed { AreBoxed self.old.boxes self.old.slots.items → AreBoxed self.new.boxes self.new.slots.items }
+        ensures later { (q : ℕ) → length self.old.slots.items ≤ q → map_of.get self.new.boxes q ≡ map_of.get self.old.boxes q }
     {
         if let Some(place) = self.place(ident) {
+            drop_box(&mut self.boxes, place);
             self.slots[place] = None;
             self.count -= 1;
         }
@@ -84,6 +95,8 @@ impl Places {
         ensures numbers { self.new.numbers ≡ self.old.numbers }
         ensures len { vec_len self.new.slots ≡ vec_len self.old.slots }
         ensures capacity { vec_capacity self.new.slots ≡ vec_capacity self.old.slots }
+        ensures boxed { AreBoxed self.old.boxes self.old.slots.items → AreBoxed self.new.boxes self.new.slots.items }
+        ensures later { (q : ℕ) → length self.old.slots.items ≤ q → map_of.get self.new.boxes q ≡ map_of.get self.old.boxes q }
     {
         for ident in leaving {
             self.clear(*ident);
@@ -102,6 +115,7 @@ impl Places {
         ensures here { place_at self.new.numbers part.ident ≡ Some (length self.old.slots.items) }
         ensures elsewhere { (q : List ℕ) → part.ident ≢ q → place_at self.new.numbers q ≡ place_at self.old.numbers q }
         ensures capacity { vec_capacity self.new.slots ≡ vec_capacity self.old.slots }
+        ensures boxes { self.new.boxes ≡ self.old.boxes }
     {
         self.numbers.set_place(part.ident, self.slots.len());
         self.slots.push_reserved(Some(part));
@@ -113,17 +127,20 @@ impl Places {
         requires placed { IsPlaced self.old }
         requires room { HasRoomFor self.old coming.items }
         requires different { AreDifferent (present self.old.slots.items ++ reverse coming.items) }
+        requires boxed { AreBoxed self.old.boxes self.old.slots.items }
         ensures present { present self.new.slots.items ≡ present self.old.slots.items ++ reverse coming.items }
         ensures placed { IsPlaced self.new }
         ensures same { (q : List ℕ) → number_at self.new.numbers q ≡ number_at self.old.numbers q }
         ensures next { self.new.numbers.next ≡ self.old.numbers.next }
+        ensures boxed { AreBoxed self.new.boxes self.new.slots.items }
     {
         while let Some(part) = coming.pop() {
             self.put(part);
         }
     }
 
-    /// Makes room for these objects, and gives each that has none a number. Who has one keeps it, also after an `Err`.
+    /// Makes room for these objects, gives each that has none a number, and keeps their boxes under the places that they
+    /// will have. Who has a number keeps it, also after an `Err`.
     pub(crate) fn prepare(&mut self, coming: &[LevelItem]) -> Result<(), NoMemory>
         requires { IsNumbering self.old.numbers }
         ensures slots { self.new.slots.items ≡ self.old.slots.items }
@@ -133,8 +150,11 @@ impl Places {
         ensures places { KeepsPlaces self.old.numbers self.new.numbers }
         ensures known { OnOk result (All (λ p. IsSome (number_at self.new.numbers p.ident)) coming.now) }
         ensures room { OnOk result (vec_len self.new.slots + length coming.now ≤ vec_capacity self.new.slots) }
+        ensures boxed { AreBoxed self.old.boxes self.old.slots.items → AreBoxed self.new.boxes self.new.slots.items }
+        ensures boxes { OnOk result (AreBoxedFrom self.new.boxes (length self.new.slots.items) coming.now) }
     {
         self.slots.reserve(coming.len())?;
+        put_boxes(&mut self.boxes, self.slots.len(), coming)?;
         give_all(&mut self.numbers, coming)
     }
 
@@ -143,27 +163,46 @@ impl Places {
         requires placed { IsPlaced self.old }
         requires room { HasRoomFor self.old coming.items }
         requires different { AreDifferent (staying leaving.now (present self.old.slots.items) ++ reverse coming.items) }
+        requires boxed { AreBoxed self.old.boxes self.old.slots.items }
         ensures present { present self.new.slots.items ≡ staying leaving.now (present self.old.slots.items) ++ reverse coming.items }
         ensures placed { IsPlaced self.new }
         ensures same { (q : List ℕ) → number_at self.new.numbers q ≡ number_at self.old.numbers q }
         ensures next { self.new.numbers.next ≡ self.old.numbers.next }
+        ensures boxed { AreBoxed self.new.boxes self.new.slots.items }
     {
         self.clear_all(leaving);
         self.put_all(coming);
     }
 
-    /// Copies of the objects that stand. Linear in their corners.
-    pub(crate) fn copies(&self, alloc: Global) -> Result<LevelItems, NoMemory>
-        ensures { IfOk result (λ list. list ≡ present self.now.slots.items) }
+    /// Copies of the objects at these places, where there are some. Linear in their corners.
+    pub(crate) fn copies(&self, alloc: Global, near: &BTreeSet<u64>) -> Result<LevelItems, NoMemory>
+        ensures those { IfOk result (λ list. (p : LevelItem) → Contains list p → Contains (present self.now.slots.items) p) }
+        ensures all { IfOk result (λ list. (k : ℕ) (p : LevelItem) → Contains near.now.keys k → at_place self.now.slots.items k ≡ Some p → Contains list p) }
     {
         let mut list = LevelItems::new(alloc);
-        for slot in &self.slots {
-            if let Some(part) = slot {
-                list.push(part.copy(alloc)?)?;
-            }
+        for place in near {
+            push_copy(alloc, &mut list, &self.slots, *place)?;
         }
         Ok(list)
     }
+}
+
+// Adds a copy of the object at the place, where there is one.
+fn push_copy(
+    alloc: Global,
+    list: &mut LevelItems,
+    slots: &[Option<LevelItem>],
+    place: u64,
+) -> Result<(), NoMemory>
+    ensures kept { OnOk result ((p : LevelItem) → Contains list.old p → Contains list.new p) }
+    ensures here { OnOk result ((p : LevelItem) → at_place slots.now place ≡ Some p → Contains list.new p) }
+    ensures those { OnOk result ((p : LevelItem) → Contains list.new p → Contains list.old p ⊎ Contains (present slots.now) p) }
+{
+    let Some(Some(part)) = slots.get(place as usize) else {
+        return Ok(());
+    };
+    list.push(part.copy(alloc)?)?;
+    Ok(())
 }
 
 // Gives each of the objects a number. Who has one keeps it, also after an `Err`.

@@ -30,8 +30,8 @@ RING 100000 400000 100010 400000 100010 400009.999 100000 400010
 EINDE
 ";
 
-// The message of a text.
-fn message_of(alloc: Global, text: &[u8]) -> Result<Message, NoMemory>
+/// The message of a text.
+pub(crate) fn message_of(alloc: Global, text: &[u8]) -> Result<Message, NoMemory>
     ensures { IfOk result IsCounted }
 {
     let limits = Limits::standard();

@@ -1,7 +1,8 @@
 use Rattle.std.proofs.Common.{◌∙◌, ap, arith, sym}
 use Rattle.local_check.specs.Numbered.{place_at}
 use Rattle.local_check.proofs.Numbering.{some_same}
-use Rattle.local_check.proofs.Placing.{cleared_is, none_cleared, one_less}
+use Rattle.local_check.proofs.Keeping.{cleared_boxed}
+use Rattle.local_check.proofs.Placing.{at_within, cleared_is, none_cleared, one_less}
 use Rattle.local_check.proofs.places.Places.clear.Goals as goal
 
 pub returns-in-Some-clause-slots : goal.returns-in-Some-clause-slots
@@ -25,3 +26,12 @@ pub returns-in-Some-clause-count : goal.returns-in-Some-clause-count
 returns-in-Some-clause-count c =
     let here = c.in-Some.ensures.some in
     omega (arith, c.requires.count, one_less c.args.self.now.slots.items c.in-Some.place here.0 here.1)
+
+pub returns-in-Some-clause-boxed : goal.returns-in-Some-clause-boxed
+returns-in-Some-clause-boxed c
+    = cleared_boxed c.args.self.now.boxes c.drop_box.new.boxes c.args.self.now.slots.items c.in-Some.place c.drop_box.ensures
+
+pub returns-in-Some-clause-later : goal.returns-in-Some-clause-later
+returns-in-Some-clause-later c =
+    let here = c.in-Some.ensures.some in
+    λ q l. c.drop_box.ensures q (λ e. omega (arith, e, l, at_within c.args.self.now.slots.items c.in-Some.place here.0 here.1))

@@ -1,4 +1,4 @@
-use Rattle.std.proofs.Common.{◌∙◌, refl, sym}
+use Rattle.std.proofs.Common.{◌∙◌, arith, refl, sym}
 use Rattle.local_check.specs.Placed.{present}
 use Rattle.local_check.proofs.Placing.{cleared_more, staying_none, still_placed}
 use Rattle.local_check.proofs.places.Places.clear_all.Goals as goal
@@ -10,6 +10,8 @@ loop-ident-init c = record {
   numbers = refl;
   len = refl;
   capacity = refl;
+  boxed = λ b. b;
+  later = λ q l. refl;
 }
 
 pub loop-ident-preserved : goal.loop-ident-preserved
@@ -23,4 +25,12 @@ loop-ident-preserved c = record {
   numbers = c.clear.ensures.numbers ∙ c.loop-ident.invariant.numbers;
   len = c.clear.ensures.len ∙ c.loop-ident.invariant.len;
   capacity = c.clear.ensures.capacity ∙ c.loop-ident.invariant.capacity;
+  boxed = λ b. c.clear.ensures.boxed (c.loop-ident.invariant.boxed b);
+  later = λ q l. c.clear.ensures.later q (omega (
+    arith,
+    l,
+    c.loop-ident.invariant.len,
+    c.loop-ident.self.slots.ok.0,
+    c.args.self.now.slots.ok.0,
+  )) ∙ c.loop-ident.invariant.later q l;
 }
