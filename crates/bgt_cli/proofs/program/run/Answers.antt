@@ -4,10 +4,11 @@ use Rattle.bgt_cli.specs.Query.{IsAnswer, MeetsQuery}
 use Rattle.bgt_cli.specs.Trial.{EndsTrial}
 use Rattle.bgt_cli.proofs.Answering.{whole_query}
 use Rattle.bgt_cli.proofs.Asking.{one_query}
+use Rattle.bgt_cli.proofs.Closing.{whole_tried}
 use Rattle.bgt_cli.proofs.Complete.{good_check, whole_check, whole_load, with_all, with_room}
 use Rattle.bgt_cli.proofs.RingsTold.{whole_rings}
 use Rattle.bgt_cli.proofs.Trials.{one_size, trial_taken}
-use Rattle.bgt_cli.proofs.Words.{is_load, size_asked}
+use Rattle.bgt_cli.proofs.Words.{is_explain, is_load, size_asked}
 use Rattle.bgt_cli.proofs.program.run.Goals as goal
 
 pub returns-in-load-clause-unlisted : goal.returns-in-load-clause-unlisted
@@ -118,3 +119,18 @@ returns-in-rings-clause-whole_rings g c = λ is none input e short.
     whole_rings c.args.limits.now input c.rings.result (g.O.Outside.shown c.args.outside.now) (g.O.Outside.shown c.rings.new.outside)
     (g.O.Outside.faults c.args.outside.now) (g.O.Outside.faults c.rings.new.outside) short none (c.rings.ensures.rings input e)
     c.rings.ensures.read_fault c.rings.ensures.write_fault
+
+pub returns-in-explain-clause-unlisted : goal.returns-in-explain-clause-unlisted
+returns-in-explain-clause-unlisted g c = λ not_check not_load not_explain.
+    absurd (not_explain (is_explain c.args.words.now _ c.in-explain.len_at_least c.in-explain.len_below c.in-explain.is-explain))
+
+pub returns-in-explain-clause-no_file : goal.returns-in-explain-clause-no_file
+returns-in-explain-clause-no_file g c = λ not_load not_explain.
+    absurd (not_explain (is_explain c.args.words.now _ c.in-explain.len_at_least c.in-explain.len_below c.in-explain.is-explain))
+
+pub returns-in-explain-clause-whole_explain : goal.returns-in-explain-clause-whole_explain
+returns-in-explain-clause-whole_explain g c = λ is none input file i d short messages state stands.
+    whole_tried c.args.limits.now state input c.explain.result (g.O.Outside.shown c.args.outside.now)
+    (g.O.Outside.shown c.explain.new.outside) (g.O.Outside.faults c.args.outside.now) (g.O.Outside.faults c.explain.new.outside)
+    short none (c.explain.ensures.tried input file i d messages state stands) c.explain.ensures.read_fault c.explain.ensures.write_fault
+    c.explain.ensures.disk_fault
