@@ -106,6 +106,11 @@ const ROWS: &[(&[&str], &str, Status)] = &[
         "1 E2 SYNTAX 1\n2 E2 SYNTAX 1\n",
         Status::Refused,
     ),
+    (
+        &["<?xml version=\"1.0\"?>\nEINDE\n"],
+        "1 E2 SYNTAX 1\n",
+        Status::Refused,
+    ),
     (&["x"], "TAIL 1\n", Status::Refused),
 ];
 

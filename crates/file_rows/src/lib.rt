@@ -4,6 +4,10 @@
 #![tactic(auto)]
 
 #[cfg(test)]
+mod damage;
+#[cfg(test)]
+mod explain;
+#[cfg(test)]
 mod exports;
 #[cfg(test)]
 mod load;
@@ -15,3 +19,5 @@ mod neighbourhood;
 mod queries;
 #[cfg(test)]
 mod trial;
+#[cfg(test)]
+mod untiled;

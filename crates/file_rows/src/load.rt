@@ -6,16 +6,20 @@ use outside::MemOutside;
 use std::alloc::Global;
 use std::test::Fail;
 
-const EMPTY: &[u8] = b"BGTJ0001\0";
+/// A new journal.
+pub const EMPTY: &[u8] = b"BGTJ0001\0";
 
-const ONE: &[u8] = b"BERICHT G0001 2024-01-01T00:00:01\nEINDE\n";
+/// The smallest message.
+pub const ONE: &[u8] = b"BERICHT G0001 2024-01-01T00:00:01\nEINDE\n";
 
 const NEXT: &[u8] = b"BERICHT G0001 2024-01-01T00:00:02\nEINDE\n";
 
-const KEPT: &[u8] = b"BGTJ0001\x01\0\0\0\0\0\0\0\x28BERICHT G0001 2024-01-01T00:00:01\nEINDE\n\0";
+/// A journal with one message.
+pub const KEPT: &[u8] =
+    b"BGTJ0001\x01\0\0\0\0\0\0\0\x28BERICHT G0001 2024-01-01T00:00:01\nEINDE\n\0";
 
-// What is told, the file, and how the run ends.
-fn loaded(
+/// What is told, the file, and how the run ends.
+pub fn loaded(
     alloc: Global,
     limits: &Limits,
     input: &[u8],

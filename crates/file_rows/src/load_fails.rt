@@ -1,28 +1,46 @@
-//! A `load` of three messages in which one call fails, or none is answered after one: what it tells, how it ends, and what the next
-//! `load` finds in the file as it reads, as it was synced last, and with each byte that was written since then changed.
+//! Loads in which one call fails, or none is answered after one: what each tells, how it ends, and what the next `load` finds in
+//! the file as it reads, as it was synced last, and with each byte that was written since then changed.
 
 use bgt_cli::{Status, run};
+use bgt_rows::messages::{BENT, HALVES};
+use bgt_rows::runs::joined;
 use message_text::Limits;
 use outside::{Call, MemOutside};
 use std::alloc::{AllocError, Global};
 use std::test::Fail;
 
-const THREE: &[u8] =
-    b"BERICHT G0001 2024-01-01T00:00:01\nEINDE\nBERICHT G0001 2024-01-01T00:00:02\nEINDE\nBERICHT G0001 2024-01-01T00:00:03\nEINDE\n";
+// Messages that are all taken, and what a `load` of them tells over a file that has none of them, the first, and so on.
+#[derive(Clone, Copy)]
+struct Case {
+    messages: &'static [&'static str],
+    told: &'static [&'static [u8]],
+}
 
-// The file with all three.
-const KEPT: &[u8] =
-    b"BGTJ0001\x01\0\0\0\0\0\0\0\x28BERICHT G0001 2024-01-01T00:00:01\nEINDE\n\x01\0\0\0\0\0\0\0\x28BERICHT G0001 2024-01-01T00:00:02\nEINDE\n\x01\0\0\0\0\0\0\0\x28BERICHT G0001 2024-01-01T00:00:03\nEINDE\n\0";
+const SMALL: Case = Case {
+    messages: &[
+        "BERICHT G0001 2024-01-01T00:00:01\nEINDE\n",
+        "BERICHT G0001 2024-01-01T00:00:02\nEINDE\n",
+        "BERICHT G0001 2024-01-01T00:00:03\nEINDE\n",
+    ],
+    told: &[
+        b"1 OK\n2 OK\n3 OK\n",
+        b"1 E5 STALE 2024-01-01T00:00:01\n2 OK\n3 OK\n",
+        b"1 E5 STALE 2024-01-01T00:00:02\n2 E5 STALE 2024-01-01T00:00:02\n3 OK\n",
+        b"1 E5 STALE 2024-01-01T00:00:03\n2 E5 STALE 2024-01-01T00:00:03\n3 E5 STALE 2024-01-01T00:00:03\n",
+    ],
+};
 
-// What a `load` of them tells over a file that has none of them, the first, the first two, or all.
-const TOLD: [&[u8]; 4] = [
-    b"1 OK\n2 OK\n3 OK\n",
-    b"1 E5 STALE 2024-01-01T00:00:01\n2 OK\n3 OK\n",
-    b"1 E5 STALE 2024-01-01T00:00:02\n2 E5 STALE 2024-01-01T00:00:02\n3 OK\n",
-    b"1 E5 STALE 2024-01-01T00:00:03\n2 E5 STALE 2024-01-01T00:00:03\n3 E5 STALE 2024-01-01T00:00:03\n",
-];
+// Two parts, and the border between them moved.
+const MOVED: Case = Case {
+    messages: &[HALVES, BENT],
+    told: &[
+        b"1 OK\n2 OK\n",
+        b"1 E5 STALE 2024-01-01T00:00:01\n2 OK\n",
+        b"1 E5 STALE 2024-01-01T00:00:02\n2 E5 STALE 2024-01-01T00:00:02\n",
+    ],
+};
 
-const ROOM: usize = 1 << 12;
+const ROOM: usize = 1 << 15;
 
 // How a run ends whose last call this is.
 fn ends(last: Option<&Call>) -> Status {
@@ -56,14 +74,28 @@ fn torn(alloc: Global, outside: &MemOutside) -> Result<Vec<u8>, AllocError> {
     Ok(file)
 }
 
+// The file with all of the messages: before each an open gate and its length, and a closed gate at the end.
+fn file_of(alloc: Global, messages: &[&str]) -> Result<Vec<u8>, AllocError> {
+    let mut file = b"BGTJ0001".to_vec(alloc)?;
+    for message in messages {
+        file.push(1)?;
+        file.extend_from_slice(&(message.len() as u64).to_be_bytes())?;
+        file.extend_from_slice(message.as_bytes())?;
+    }
+    file.push(0)?;
+    Ok(file)
+}
+
 // How many of the messages a `load` finds in the file, by what it tells, where the file has all of them then.
-fn found(alloc: Global, file: &[u8]) -> Result<Option<usize>, Fail> {
-    let mut outside = MemOutside::new(alloc, THREE, file, 100, &[], None, ROOM)?;
+fn found(alloc: Global, case: &Case, file: &[u8]) -> Result<Option<usize>, Fail> {
+    let input = joined(alloc, case.messages)?;
+    let mut outside = MemOutside::new(alloc, input.as_bytes(), file, 1 << 12, &[], None, ROOM)?;
     run(alloc, &["load", "F"], &Limits::standard(), &mut outside);
-    if outside.disk() != KEPT {
+    let whole = file_of(alloc, case.messages)?;
+    if outside.disk() != whole.as_slice() {
         return Ok(None);
     }
-    Ok(TOLD.iter().position(|told| *told == outside.told()))
+    Ok(case.told.iter().position(|told| *told == outside.told()))
 }
 
 // What a run over an empty file told, how it ended, how its last call says that it ends, and how many messages the next run finds.
@@ -76,9 +108,16 @@ struct Ended {
 }
 
 // A run of which these calls fail.
-fn tried(alloc: Global, piece: usize, failing: &[u64], stop: Option<u64>) -> Result<Ended, Fail> {
+fn tried(
+    alloc: Global,
+    case: &Case,
+    piece: usize,
+    failing: &[u64],
+    stop: Option<u64>,
+) -> Result<Ended, Fail> {
     let piece = piece.max(1);
-    let mut outside = MemOutside::new(alloc, THREE, b"", piece, failing, stop, ROOM)?;
+    let input = joined(alloc, case.messages)?;
+    let mut outside = MemOutside::new(alloc, input.as_bytes(), b"", piece, failing, stop, ROOM)?;
     let status = run(alloc, &["load", "F"], &Limits::standard(), &mut outside);
     let torn = torn(alloc, &outside)?;
     Ok(Ended {
@@ -86,25 +125,31 @@ fn tried(alloc: Global, piece: usize, failing: &[u64], stop: Option<u64>) -> Res
         status,
         due: ends(outside.entries().last()),
         found: [
-            found(alloc, outside.disk())?,
-            found(alloc, outside.synced())?,
-            found(alloc, &torn)?,
+            found(alloc, case, outside.disk())?,
+            found(alloc, case, outside.synced())?,
+            found(alloc, case, &torn)?,
         ],
     })
 }
 
+// What it tells where no call fails.
+fn whole_text(case: &Case) -> &'static [u8] {
+    case.told.first().copied().unwrap_or(b"")
+}
+
 #[test]
 fn each_call_fails_or_is_the_last(rt: HostRuntime) -> Result<(), Fail> {
-    // The bytes of a piece, and the calls of a run of which none fails. In pieces of 4 bytes a line is told in two calls.
-    for (piece, calls) in [(4, 54), (100, 23)] {
+    // The messages, the bytes of a piece, and the calls of a run of which none fails. In pieces of 4 bytes a line is told in two
+    // calls.
+    for (case, piece, calls) in [(SMALL, 4, 54), (SMALL, 100, 23), (MOVED, 100, 27)] {
         for call in 0..calls + 1 {
-            let fails = tried(rt.alloc(), piece, &[call + 1], None)?;
-            let stops = tried(rt.alloc(), piece, &[], Some(call))?;
+            let fails = tried(rt.alloc(), &case, piece, &[call + 1], None)?;
+            let stops = tried(rt.alloc(), &case, piece, &[], Some(call))?;
             for tried in [fails, stops] {
                 let lines = tried.told.iter().filter(|byte| **byte == b'\n').count();
                 assert_eq!(rt; tried.status, tried.due, "call {call}");
                 assert_eq!(rt; tried.status == Status::Good, call == calls, "call {call}");
-                assert!(rt; TOLD[0].starts_with(&tried.told), "call {call}");
+                assert!(rt; whole_text(&case).starts_with(&tried.told), "call {call}");
                 // Only where a write failed a line may be told in part.
                 let whole = tried.told.len() == 5 * lines;
                 assert!(rt; whole || tried.status == Status::WriteFault, "call {call}");

@@ -1,6 +1,7 @@
 use outside::{Call, ENTRY_BYTES, Failed, FaultFree, MemOutside, Outside, RealOutside};
+use std::os::fd::AsRawFd;
 use std::test::Fail;
-use std::{fs, process};
+use std::{fs, io, process};
 
 // Each row: is it a `take`; the length of its buffer or piece; what it answers; the told text and the number of calls
 // after it. The room is 7 entries and 4 told bytes. Call 3 is to fail, 7 is past the room, and 8 and 9 come after the last.
@@ -85,7 +86,8 @@ fn a_file_in_memory(rt: HostRuntime) -> Result<(), Fail> {
     Ok(())
 }
 
-// What the disk calls write is what they read, in a new file that this program alone may write. A folder is no file.
+// What the disk calls write is what they read, in a new file that this program alone may write. A folder is no file, and neither are a
+// device and a pipe.
 #[test]
 fn a_real_file(rt: HostRuntime) -> Result<(), Fail> {
     let id = process::id(rt.process());
@@ -106,8 +108,16 @@ fn a_real_file(rt: HostRuntime) -> Result<(), Fail> {
     fs::remove_file(&rt, path.as_str())?;
     let mut missing = RealOutside::new(&rt, Some(path.as_str()), false);
     assert_eq!(rt; missing.disk_len(), Err(Failed));
-    let mut folder = RealOutside::new(&rt, Some("/tmp"), false);
-    assert_eq!(rt; folder.disk_len(), Err(Failed));
-    assert_eq!(rt; folder.give(b""), Ok(0));
+    // Whoever opens this pipe waits, since nobody can write into it.
+    let (source, sink) = io::pipe(&rt)?;
+    drop(sink);
+    let pipe = format!(in rt.alloc(); "/proc/self/fd/{}", source.as_raw_fd())?;
+    for path in ["/tmp", "/dev/zero", pipe.as_str()] {
+        for may_write in [false, true] {
+            let mut other = RealOutside::new(&rt, Some(path), may_write);
+            assert_eq!(rt; other.disk_len(), Err(Failed), "{path}");
+            assert_eq!(rt; other.give(b""), Ok(0));
+        }
+    }
     Ok(())
 }
