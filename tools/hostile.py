@@ -41,7 +41,7 @@ def run(words, data=b"", before=(), limit=None):
     with tempfile.TemporaryFile() as source, tempfile.TemporaryFile() as sink:
         source.write(data)
         source.seek(0)
-        ran = subprocess.run([*before, PROGRAM, *words], stdin=source, stdout=sink, stderr=subprocess.DEVNULL, preexec_fn=limit)
+        ran = subprocess.run([*before, PROGRAM, *words], stdin=source, stdout=sink, stderr=subprocess.DEVNULL, preexec_fn=limit, timeout=600)
         sink.seek(0)
         return sink.read(), ran.returncode
 
@@ -68,6 +68,11 @@ class Street:
     def after(self, path):
         run(["load", path], self.messages)
         return read(path)
+
+    def is_well_again(self, path, kept):
+        """Whether a second run finds just so many messages, and makes the file whole."""
+        again = run(["load", path], self.messages)[0]
+        return again.count(b" E5 STALE ") == kept and again.count(b" OK\n") == 3 - kept and read(path) == self.whole
 
     def is_well(self, path, told):
         """Whether a second run finds what it may find, and makes the file whole."""
@@ -125,6 +130,101 @@ def small_memory(street):
         if status not in (0, 7, 127, -11, -6, -9) and not told or not street.is_well(path, told):
             wrong.append((kilobytes, status))
     return count("little memory", cases, wrong, f"statuses {dict(sorted(seen.items()))}; below 0 or 127 the system did not start the program")
+
+
+# Memory of which the Nth growth is refused (REFUSE=N), or each from the Nth on (REFUSE=N..), or each between a write to a file and the next
+# one to standard output (REFUSE=written). It tells how many growths were asked for, and how many of them between such writes.
+REFUSER = r"""
+#include <fcntl.h>
+#include <stdio.h>
+#include <stdlib.h>
+#include <sys/syscall.h>
+#include <unistd.h>
+extern void *__libc_malloc(size_t);
+extern void *__libc_realloc(void *, size_t);
+static long asked, first, between;
+static int later, when_written, written;
+static int is_refused(void) {
+    asked++;
+    between += written;
+    return asked == first || (later && asked > first) || (when_written && written);
+}
+void *malloc(size_t size) { return is_refused() ? NULL : __libc_malloc(size); }
+void *realloc(void *at, size_t size) { return is_refused() ? NULL : __libc_realloc(at, size); }
+ssize_t write(int file, const void *bytes, size_t size) {
+    written = file > 2;
+    return syscall(SYS_write, file, bytes, size);
+}
+ssize_t __write(int file, const void *bytes, size_t size) { return write(file, bytes, size); }
+__attribute__((constructor)) static void begin(void) {
+    char *end;
+    first = strtol(getenv("REFUSE"), &end, 10);
+    later = *end == '.';
+    when_written = *end == 'w';
+    asked = between = 0;
+}
+__attribute__((destructor)) static void tell(void) {
+    char text[64];
+    int size = snprintf(text, sizeof text, "%ld %ld", asked, between), file = open(getenv("ASKED"), O_WRONLY | O_CREAT | O_TRUNC, 0600);
+    if (syscall(SYS_write, file, text, size) != size) _exit(99);
+}
+"""
+
+
+class Refuser:
+    """Runs in which growths of memory are refused."""
+
+    def __init__(self, folder):
+        self.library, self.said = f"{folder}/refuser.so", f"{folder}/asked"
+        write(f"{folder}/refuser.c", REFUSER.encode())
+        subprocess.run(["cc", "-shared", "-fPIC", "-O1", "-o", self.library, f"{folder}/refuser.c"], check=True)
+
+    def run(self, words, data, which):
+        """What the program writes, its status, how many growths it asked for, and how many of them after it began a record."""
+        told, status = run(words, data, ["env", f"LD_PRELOAD={self.library}", f"REFUSE={which}", f"ASKED={self.said}"])
+        return told, status, *map(int, read(self.said).split())
+
+
+def refused_growths(street):
+    """Each growth of memory in a load of three messages is refused, alone and with all later ones: the lines of some of the messages
+    and status 7, with a file of just these, byte for byte; or the full answer."""
+    refuser = Refuser(street.folder)
+    texts = [text + b"EINDE\n" for text in street.messages.split(b"EINDE\n")[:-1]]
+    files = []
+    for kept in range(len(texts) + 1):
+        run(["load", f"{street.folder}/kept{kept}"], b"".join(texts[:kept]))
+        files.append(read(f"{street.folder}/kept{kept}"))
+    cases, wrong, seen = 0, [], {}
+    for behind in ("", ".."):
+        number = asked = 0
+        while number <= asked:
+            number += 1
+            path = f"{street.folder}/refused{number}{behind}"
+            told, status, asked, _ = refuser.run(["load", path], street.messages, f"{number}{behind}")
+            data = read(path) if os.path.exists(path) else b""
+            kept = told.count(b"\n")
+            well = told == b"".join(b"%d OK\n" % (k + 1) for k in range(kept)) and (data == files[kept] or kept == 0 and data == b"")
+            well = well and (status == 7 or status == 0 and kept == len(texts)) and street.is_well_again(path, kept)
+            if number <= asked:
+                cases += 1
+                seen[status] = seen.get(status, 0) + 1
+            if not well:
+                wrong.append((f"{number}{behind}", status, told))
+    return count("a growth is refused", cases, wrong, f"statuses {dict(sorted(seen.items()))}")
+
+
+def refused_when_written(street):
+    """From the first write of a record on each growth is refused, until its reply is written: none is asked for, and the run is as one
+    with memory. The file has the first message already, since a new file is written before a message is read."""
+    refuser = Refuser(street.folder)
+    first = street.messages.split(b"EINDE\n")[0] + b"EINDE\n"
+    ended = []
+    for which in ("0", "written"):
+        path = f"{street.folder}/written{which}"
+        run(["load", path], first)
+        ended.append((*refuser.run(["load", path], street.messages, which), read(path)))
+    well = ended[0] == ended[1] and ended[0][3] == 0 and ended[0][0].count(b" OK\n") == 2 and ended[0][4] == street.whole
+    return count("growths are refused once a record is begun", 2, [] if well else ended, f"{ended[1][2]} growths, {ended[1][3]} of them then")
 
 
 def full_disk(street):
@@ -231,8 +331,26 @@ def changed_bytes(street):
     return count("a byte of the register changed", len(whole), wrong, f"statuses {dict(sorted(seen.items()))}")
 
 
+def strips(number, rows, lacking):
+    """A map of strips beside each other, whose borders have a corner in each row; or one in which a strip in the middle lacks a corner."""
+    def line(k):
+        return [b"%d %d" % (3 * k + 1 + (row % 2 if 0 < row < rows - 1 else 0), 200_000 + row) for row in range(rows)]
+
+    left, right = line(0), line(number)
+    south, north = ([b"%d %d" % (3 * k + 1, y) for k in range(1, number)] for y in (200_000, 199_999 + rows))
+    text = [b"BERICHT G0001 2024-01-01T00:00:01\nGEBIED\nRING ", b" ".join([left[0], *south, *right, *north[::-1], *left[:0:-1]])]
+    for k in range(number):
+        ring = line(k + 1) + line(k)[::-1]
+        if lacking and k == number // 2:
+            del ring[rows // 2]
+        text.append(b"\nT G0001.%032d onbegroeid_terreindeel 0 2024-01-01 fysiekVoorkomen=erf\nRING " % k)
+        text.append(b" ".join(ring))
+    return b"".join([*text, b"\nEINDE\n"])
+
+
 def strange_inputs(street):
-    """Input that is no message: random bytes, no line end, a long line, a message at the limit of mutations and one past it."""
+    """Input that is no message: random bytes, no line end, a long line, a message at the limit of mutations and one past it. And a
+    map of 1,392,640 sides, which takes the most memory for its bytes."""
     mutation = b"V G0001.%032d 2024-01-01T00:00:00 2024-01-01\n"
     at_limit = b"BERICHT G0001 2024-01-01T00:00:01\n" + b"".join(mutation % k for k in range(262_144)) + b"EINDE\n"
     past_it = at_limit[:-6] + mutation % 262_144 + b"EINDE\n"
@@ -243,6 +361,7 @@ def strange_inputs(street):
         ("a line of 200 MB", b"y" * 200_000_000 + b"\nEINDE\n", (1,), None),
         ("262,144 mutations", at_limit, (1,), b"1 E9 UNKNOWN 1 -\n"),
         ("262,145 mutations", past_it, (1,), b"1 E4 LIMIT mutations\n"),
+        ("340 strips of 4,096 sides", strips(340, 2_048, False), (0,), b"1 OK\n"),
     ]
     wrong = []
     for name, data, statuses, want in tries:
@@ -260,9 +379,9 @@ def strange_paths(street):
     folder, wrong = street.folder, []
     os.mkdir(f"{folder}/folder")
     os.mkfifo(f"{folder}/pipe")
-    paths = [f"{folder}/folder", f"{folder}/none/register", "/dev/null", "", f"{folder}/" + "n" * 300]
-    # (a query of a pipe waits for who writes into it, as any reader does)
-    cases = [["load", f"{folder}/pipe"]]
+    # (whoever opens a pipe waits for its other end)
+    paths = [f"{folder}/folder", f"{folder}/pipe", f"{folder}/none/register", "/dev/null", "/dev/zero", "", f"{folder}/" + "n" * 300]
+    cases = []
     for path in paths:
         cases += [["load", path], ["state", path, "2024-01-01T00:00:00"]]
     for words in cases:
@@ -278,6 +397,8 @@ def strange_paths(street):
 TRIES = {
     "calls": failing_calls,
     "memory": small_memory,
+    "growths": refused_growths,
+    "written": refused_when_written,
     "disk": full_disk,
     "two": two_loads,
     "killed": killed,
@@ -287,14 +408,19 @@ TRIES = {
 }
 
 
+# What a try needs beside the program.
+TOOLS = {"calls": "strace", "growths": "cc", "written": "cc"}
+
+
 def main(names):
     if not os.access(PROGRAM, os.X_OK):
         print("the program is not built\n0 passed, 0 failed")
         return 0
     passed = failed = 0
     for name in names or TRIES:
-        if name == "calls" and shutil.which("strace") is None:
-            print("a call of the system fails: not tried, there is no strace")
+        tool = TOOLS.get(name)
+        if tool and shutil.which(tool) is None:
+            print(f"{name}: not tried, there is no {tool}")
             continue
         with tempfile.TemporaryDirectory() as folder:
             well, ill = TRIES[name](Street(folder))

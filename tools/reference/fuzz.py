@@ -4,7 +4,7 @@
     fuzz.py PROGRAM [--seed N] [--count N] [--seconds N] [--out FOLDER]
 
 Each stream goes through `check`, then in two halves through `load` on one file; after each load the file is
-compared byte for byte. Then come queries at random moments, identifications and points, exports loaded into
+compared byte for byte. Before each load the half is explained over the file. Then come queries at random moments, identifications and points, exports loaded into
 empty files, and damaged copies of the file. Each difference is made smaller and written to FOLDER.
 """
 import argparse
@@ -58,7 +58,7 @@ class Fuzz:
     def count(self, words, wanted):
         told, status, _ = wanted
         self.statuses["%s %d" % (words[0] if words else "-", status)] += 1
-        if words[:1] in (["check"], ["load"]):
+        if words[:1] in (["check"], ["load"], ["explain"]):
             for line in told.decode("latin-1").splitlines():
                 self.replies[reply_name(line)] += 1
         elif status == 0:
@@ -107,8 +107,10 @@ class Fuzz:
         texts = ref.cut_texts(data)[0]
         half = sum(map(len, texts[:rng.randint(0, len(texts))]))
         start = rng.choice([EMPTY] * 4 + [b"BGTJ0001\0", b"123456789", b"BGT", b"BGTJ0001\0junk" * 3, b"BGTJ0001\2" + b"x" * 700])
-        file = self.both(["load", "F"], data[:half], start)[2]
-        file = self.both(["load", "F"], data[half:], file)[2]
+        file = start
+        for part in (data[:half], data[half:]):
+            self.both(["explain", "F"], part, file)
+            file = self.both(["load", "F"], part, file)[2]
         self.ask(rng, file)
         if rng.random() < 0.5:
             self.damage(rng, file, data)
@@ -140,7 +142,7 @@ class Fuzz:
         """A changed file, for a query and for a load."""
         bad = hurt(rng, file)
         self.both(["state", "F", "2024-01-01T00:00:01"], b"", bad)
-        self.both(["load", "F"], rng.choice([data, b"BERICHT Z9999 2024-01-01T00:00:00\nEINDE\n"]), bad)
+        self.both([rng.choice(["load", "explain"]), "F"], rng.choice([data, b"BERICHT Z9999 2024-01-01T00:00:00\nEINDE\n"]), bad)
 
 
 # ---------------------------------------------------------------- what to ask
@@ -176,7 +178,7 @@ def some_point(rng, state):
 def odd_words(rng, state):
     m, i = some_moment(rng, state), some_ident(rng, state)
     x, y = some_point(rng, state)
-    good = [["check"], ["load", "F"], ["state", "F", m], ["history", "F", i], ["point", "F", x, y, m], ["export", "F", m],
+    good = [["check"], ["load", "F"], ["explain", "F"], ["state", "F", m], ["history", "F", i], ["point", "F", x, y, m], ["export", "F", m],
             ["trial", str(rng.randint(2, 5))]]
     words = list(rng.choice(good))
     k = rng.randrange(len(words))
@@ -221,6 +223,8 @@ def reply_name(line):
     words = line.split(" ")
     if words[0] in ("TAIL", "NOTJOURNAL", "DAMAGED", "USAGE"):
         return words[0]
+    if words[0] in ("POINT", "CROSS"):
+        return " ".join(words[:1] + words[3:] if words[0] == "POINT" else words[:1])
     words = words[1:]
     keep = {"E13": [1, 3, 4], "E15": [1, 3], "E17": [1, 2], "E4": [1, 2], "E16": [1, 2]}.get(words[0], [1])
     name = " ".join([words[0]] + [words[k] for k in keep if k < len(words)])

@@ -4,6 +4,10 @@ from functools import lru_cache
 
 from texts import *
 
+class LawBroken(Exception):
+    """Two ways to decide one thing differ: one of the laws would be wrong."""
+
+
 # ---------------------------------------------------------------- plane
 
 
@@ -205,3 +209,57 @@ def tiled(area, parts):
                 if sum(holds[:len(parts)]) != wanted:
                     return False
     return True
+
+
+# ---------------------------------------------------------------- why a map is not tiled
+
+
+def lies_in(p, shape):
+    """The ray to the right crosses an odd number of edges, by the half-open rule."""
+    odd = False
+    for a, b in shape_edges(shape):
+        t = (b[0] - a[0]) * (p[1] - a[1]) - (b[1] - a[1]) * (p[0] - a[0])
+        if a[1] <= p[1] < b[1] and t > 0 or b[1] <= p[1] < a[1] and t < 0:
+            odd = not odd
+    return odd
+
+
+def least_crossing(edges):
+    """The least two edges that have one common point, an end of neither, the smaller edge first; or None."""
+    edges = sorted(edges)
+    for k, e in enumerate(edges):
+        for f in edges[k + 1:]:
+            p = common(e, f)
+            if p is not None and p is not MANY and p not in e and p not in f:
+                return e, f
+    return None
+
+
+ALL_HEIGHTS = 4000  # a map that is no higher than so many millimetres is looked through at each height
+
+
+def first_wrong(area, parts):
+    """Where no edges cross: the first point that lies in the wrong number of parts, as (x, k, number of parts, in the area).
+
+    Its height is k / 2 with the least odd k that has such a point. Between two neighbouring vertex heights each height
+    looks alike, so that the first after each vertex height is enough; of a low map all are looked at."""
+    edges = border_edges(area, parts)
+    heights = sorted({p[1] for e in edges for p in e})
+    found = next(filter(None, (wrong_at(2 * y + 1, edges, area, parts) for y in heights[:-1])), None)
+    if heights[-1] - heights[0] <= ALL_HEIGHTS:
+        plain = next(filter(None, (wrong_at(k, edges, area, parts) for k in range(2 * heights[0] - 1, 2 * heights[-1] + 2, 2))), None)
+        if plain != found:
+            raise LawBroken(repr((area, parts)))
+    return found
+
+
+def wrong_at(k, edges, area, parts):
+    """Of the stretches of the height k / 2 between edges the leftmost whose middle lies in the wrong number of parts, or None."""
+    y = Fraction(k, 2)
+    xs = sorted({x_at(e, y) for e in edges if min(e[0][1], e[1][1]) < y < max(e[0][1], e[1][1])})
+    for low, high in zip(xs, xs[1:]):
+        p = ((low + high) / 2, y)
+        count, inside = sum(lies_in(p, s) for s in parts), any(lies_in(p, s) for s in area)
+        if count != (1 if inside else 0):
+            return p[0], k, count, inside
+    return None

@@ -180,10 +180,6 @@ def after(state, message):
     return new
 
 
-class LawBroken(Exception):
-    """Coverage at points and cancelled edges differ: one of the laws would be wrong."""
-
-
 @lru_cache(4096)
 def map_refusal(area, parts, check_law=True):
     """Refusals 19 and 20 of one holder's map."""
@@ -206,11 +202,25 @@ def step(limits, state, message):
     if refusal:
         return refusal, state
     new = after(state, message)
-    area = new.area(message.holder)
-    parts = tuple(v.item.rings for v in new.objects(message.holder) if v.item.ground())
+    area, parts = holder_map(new, message.holder)
     law = sum(len(r) for s in area + parts for r in s) <= LAW_EDGES
     refusal = map_refusal(area, parts, law)
     return (refusal, state) if refusal else (None, new)
+
+
+def holder_map(state, holder):
+    """The holder's area and its ground parts."""
+    return state.area(holder), tuple(v.item.rings for v in state.objects(holder) if v.item.ground())
+
+
+def explanation(state, message):
+    """The line that says why the map is not tiled that the message would leave its holder."""
+    area, parts = holder_map(after(state, message), message.holder)
+    edges = least_crossing(border_edges(area, parts))
+    if edges:
+        return "CROSS %s %s\n" % tuple(print_edge(e) for e in edges)
+    x, k, count, inside = first_wrong(area, parts)
+    return "POINT %d/%d %d/2 %d %s\n" % (x.numerator, x.denominator, k, count, "in" if inside else "out")
 
 
 # ---------------------------------------------------------------- query texts
@@ -245,16 +255,6 @@ def state_text(state, t):
 def history_text(state, ident):
     blocks = sorted(state.of_ident(ident), key=lambda v: v.since)
     return "".join(version_block(v) for v in blocks) or "NONE\n"
-
-
-def lies_in(p, shape):
-    """The ray to the right crosses an odd number of edges, by the half-open rule."""
-    odd = False
-    for a, b in shape_edges(shape):
-        t = (b[0] - a[0]) * (p[1] - a[1]) - (b[1] - a[1]) * (p[0] - a[0])
-        if a[1] <= p[1] < b[1] and t > 0 or b[1] <= p[1] < a[1] and t < 0:
-            odd = not odd
-    return odd
 
 
 def point_text(state, p, t):
@@ -386,8 +386,8 @@ def append(file, gate, payload):
 GOOD, REFUSED, USAGE, BAD_JOURNAL, INPUT_LONG, JOURNAL_FULL = 0, 1, 2, 6, 8, 9
 
 
-def answer_stream(data, limits, state, keep):
-    """Reply lines and status for `check` and `load`; `keep(message)` is False without room."""
+def answer_stream(data, limits, state, keep, explains=False):
+    """Reply lines and status for `check`, `load` and `explain`; `keep(message)` is False without room."""
     texts, tail = cut_texts(data[:limits.input_bytes])
     told, good = [], True
     for number, text in enumerate(texts, 1):
@@ -395,9 +395,11 @@ def answer_stream(data, limits, state, keep):
         refusal, after_state = (message, state) if isinstance(message, str) else step(limits, state, message)
         if refusal is None and not keep(message):
             return "".join(told), JOURNAL_FULL
-        state = after_state
         good = good and refusal is None
         told.append("%d %s\n" % (number, refusal or "OK"))
+        if explains and refusal and refusal.startswith("E20 TILED"):
+            told.append(explanation(state, message))
+        state = after_state
     if len(data) >= limits.input_bytes:
         return "".join(told), INPUT_LONG
     if tail:
@@ -425,6 +427,14 @@ def load(data, file, limits):
     return told, status, book[0]
 
 
+def explain(data, file, limits):
+    try:
+        state, _ = open_journal(file, limits)
+    except BadJournal as bad:
+        return "%s\n" % bad, BAD_JOURNAL
+    return answer_stream(data, limits, state, lambda message: True, explains=True)
+
+
 def asked(words):
     """The query of the words as a function of the state, or None where they are not listed."""
     name, count = words[0], len(words)
@@ -448,6 +458,8 @@ def run(words, data=b"", file=b"", limits=STANDARD):
         told, status = answer_stream(data, limits, State(), lambda message: True)
     elif len(words) == 2 and words[0] == "load":
         told, status, file = load(data, file, limits)
+    elif len(words) == 2 and words[0] == "explain":
+        told, status = explain(data, file, limits)
     elif query:
         try:
             told, status = query(open_journal(file, limits)[0]), GOOD
@@ -461,7 +473,7 @@ def run(words, data=b"", file=b"", limits=STANDARD):
 
 def main():
     words = sys.argv[1:]
-    has_file = len(words) > 1 and words[0] in ("load", "state", "history", "point", "export")
+    has_file = len(words) > 1 and words[0] in ("load", "explain", "state", "history", "point", "export")
     file = b""
     if has_file:
         try:
@@ -469,7 +481,7 @@ def main():
                 file = f.read()
         except FileNotFoundError:
             file = b""
-    takes = words[:1] in (["check"], ["load"])
+    takes = words[:1] in (["check"], ["load"], ["explain"])
     told, status, new = run(words, sys.stdin.buffer.read() if takes else b"", file)
     if has_file and words[0] == "load" and status != USAGE:
         with open(words[1], "wb") as f:
