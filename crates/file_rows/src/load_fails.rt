@@ -151,7 +151,7 @@ fn each_call_fails_or_is_the_last(rt: HostRuntime) -> Result<(), Fail> {
                 assert_eq!(rt; tried.status == Status::Good, call == calls, "call {call}");
                 assert!(rt; whole_text(&case).starts_with(&tried.told), "call {call}");
                 // Only where a write failed a line may be told in part.
-                let whole = tried.told.len() == 5 * lines;
+                let whole = tried.told.len() == lines.wrapping_mul(5);
                 assert!(rt; whole || tried.status == Status::WriteFault, "call {call}");
                 for found in tried.found {
                     let near = found == Some(lines) || found == Some(lines + 1);
