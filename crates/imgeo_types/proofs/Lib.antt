@@ -2,3 +2,4 @@ pub mod Words
 pub mod RightItems
 mod Examples
 mod ExampleItems
+mod ByWords

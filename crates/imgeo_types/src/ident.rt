@@ -1,15 +1,22 @@
-ghost use Rattle.std.specs.Prelude.{◌≡◌, ◌↔◌, IsTrue, MatchOption, All};
+ghost use Rattle.std.specs.Prelude.{◌≡◌, ◌↔◌, ◌+◌, ◌≤◌, IsTrue, MatchOption, All, Some, take, drop};
 ghost use Rattle.std.specs.Char.{IsAsciiAlphanumeric};
+ghost use Rattle.std.specs.Cmp.Lexicographic.{nat_list_cmp_total, slice_cmp, texts_po, texts_ties};
+ghost use Rattle.std.specs.Int.{from_be_bytes, w64};
+ghost use Rattle.std.specs.Ordering.{is_ne, nat_cmp};
+ghost use Rattle.std.proofs.Common.{refl};
+ghost use Rattle.imgeo_types.specs.Eights.{eight_cmp};
 ghost use Rattle.imgeo_types.specs.Fields.{IsHolder, IsIdent, holder_of};
+ghost use Rattle.imgeo_types.specs.Keys.{key_cmp};
 
 use crate::holder::{Holder, is_holder};
 use rd_plane::Listed;
+use std::cmp::Ordering;
 use std::marker::Model;
 
 /// The identification of an object, as IMGeo has it: its holder, a full stop, and 32 letters or digits, compared byte
 /// for byte. The namespace `NL.IMGeo` is understood, and not written. Contracts see its 38 bytes, by which
 /// identifications are ordered.
-#[derive(Clone, Copy, Debug, PartialEq, Eq, PartialOrd, Ord)]
+#[derive(Clone, Copy, Debug, PartialEq, Eq)]
 pub struct Ident {
     bytes: [u8; 38],
 }
@@ -28,6 +35,87 @@ impl Model for Ident {
     ghost inverse = { λ bytes. record { bytes = bytes } };
 
     ghost invariant = { λ i. IsIdent i.bytes };
+}
+
+// The eight bytes from `i` on as one number, the first byte the greatest.
+fn word_at(bytes: &[u8; 38], i: usize) -> u64
+    requires { i + 8 ≤ 38 }
+    ensures { result ≡ from_be_bytes w64 (take 8 (drop i bytes.now)) }
+{
+    u64::from_be_bytes([
+        bytes[i],
+        bytes[i + 1],
+        bytes[i + 2],
+        bytes[i + 3],
+        bytes[i + 4],
+        bytes[i + 5],
+        bytes[i + 6],
+        bytes[i + 7],
+    ])
+}
+
+// Whether the eight bytes from `i` on differ.
+fn differ_at(a: &[u8; 38], b: &[u8; 38], i: usize) -> bool
+    requires { i + 8 ≤ 38 }
+    ensures { result ≡ is_ne (eight_cmp i a.now b.now) }
+{
+    word_at(a, i) != word_at(b, i)
+}
+
+// The order of the eight bytes from `i` on.
+fn order_at(a: &[u8; 38], b: &[u8; 38], i: usize) -> Ordering
+    requires { i + 8 ≤ 38 }
+    ensures { result ≡ eight_cmp i a.now b.now }
+{
+    word_at(a, i).cmp(&word_at(b, i))
+}
+
+// Eight bytes at a time, since most identifications are alike almost to their ends, and a map compares many. The last
+// eight begin among those before them, which are alike by then.
+fn order(a: &[u8; 38], b: &[u8; 38]) -> Ordering
+    ensures { result ≡ slice_cmp nat_cmp a.now b.now }
+{
+    for k in 0..4 {
+        let i = 8 * k;
+        if differ_at(a, b, i) {
+            return order_at(a, b, i);
+        }
+    }
+    order_at(a, b, 30)
+}
+
+// The order of keys: the last eight bytes come first.
+fn order_from_end(a: &[u8; 38], b: &[u8; 38]) -> Ordering
+    ensures { result ≡ key_cmp a.now b.now }
+{
+    if differ_at(a, b, 30) {
+        return order_at(a, b, 30);
+    }
+    order(a, b)
+}
+
+impl PartialOrd for Ident {
+    ghost partial_cmp = { λ x y. Some (slice_cmp nat_cmp x y) };
+
+    ghost laws = { texts_po };
+
+    fn partial_cmp(&self, other: &Ident) -> Option<Ordering> {
+        Some(self.cmp(other))
+    }
+}
+
+impl Ord for Ident {
+    ghost cmp = { slice_cmp nat_cmp };
+
+    ghost total = { nat_list_cmp_total };
+
+    ghost matches_partial_cmp = { λ x y. refl };
+
+    ghost matches_eq = { texts_ties };
+
+    fn cmp(&self, other: &Ident) -> Ordering {
+        order(&self.bytes, &other.bytes)
+    }
 }
 
 // Whether each of the bytes is a letter or a digit.
@@ -72,6 +160,13 @@ impl Ident {
         ensures is { IsHolder result }
     {
         Holder::of(&self.bytes[..5])
+    }
+
+    // The order of the two as keys of a map.
+    pub(crate) fn key_cmp(&self, other: &Ident) -> Ordering
+        ensures { result ≡ key_cmp self.now other.now }
+    {
+        order_from_end(&self.bytes, &other.bytes)
     }
 
     /// The 38 bytes.

@@ -12,6 +12,7 @@ mod fault;
 mod holder;
 mod ident;
 mod item;
+mod key;
 mod kind;
 pub mod laws;
 
@@ -21,4 +22,5 @@ pub use fault::ItemFault;
 pub use holder::Holder;
 pub use ident::{Ident, Idents};
 pub use item::Item;
+pub use key::IdentKey;
 pub use kind::{Attr, Kind};

@@ -150,6 +150,36 @@ impl History {
         Ok(place)
     }
 
+    /// Adds a current version of what has none at the end of the list. Looks the identification up once.
+    pub fn begin_next(
+        &mut self,
+        alloc: Global,
+        holder: Holder,
+        ident: Ident,
+        item: &Item,
+        since: Moment,
+    ) -> Result<(), NoMemory>
+        requires { current_of ident self.old.versions ≡ None }
+        ensures ok { OnOk result (self.new.versions ≡ self.old.versions ++ new_version holder ident item.now since ∷ []) }
+        ensures err { OnErr result (self.new.versions ≡ self.old.versions) }
+        ensures kept { self.new.kept ≡ self.old.kept }
+    {
+        let version = Version {
+            holder,
+            ident,
+            item: item.copy(alloc)?,
+            since,
+            until: None,
+            end_day: None,
+        };
+        self.index.push(ident)?;
+        let Ok(()) = self.versions.push(version) else {
+            self.index.pop(ident);
+            return Err(NoMemory);
+        };
+        Ok(())
+    }
+
     /// Adds a current version at the end of the list.
     ///
     /// `Known` exactly where the identification has a current version.
@@ -170,19 +200,7 @@ impl History {
         if self.current_place(ident).is_ok() {
             return Err(HistoryFault::Known);
         }
-        let version = Version {
-            holder,
-            ident,
-            item: item.copy(alloc)?,
-            since,
-            until: None,
-            end_day: None,
-        };
-        self.index.push(ident)?;
-        let Ok(()) = self.versions.push(version) else {
-            self.index.pop(ident);
-            return Err(HistoryFault::NoMemory);
-        };
+        self.begin_next(alloc, holder, ident, item, since)?;
         Ok(())
     }
 
