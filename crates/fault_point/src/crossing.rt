@@ -1,7 +1,7 @@
 //! The least two edges that cross.
 //!
-//! The edges are taken in blocks of 4096 successive ones, which lie near to one another where they are those of rings, and
-//! the edges near a block are listed by boxes. Within a block they are taken in stretches of 64: an edge whose box lies
+//! The edges are taken in blocks of 1024 successive ones, which lie near to one another where they are those of rings, and
+//! the edges near a block are listed by boxes. Within a block they are taken in stretches of 16: an edge whose box lies
 //! apart from that of a stretch is compared with none of it.
 
 ghost use Rattle.std.specs.Prelude.{◌≡◌, ◌≢◌, ◌⊎◌, ◌↔◌, ◌<◌, ◌≤◌, length, IfOk, IsTrue, MatchOption};
@@ -19,10 +19,10 @@ use std::alloc::Global;
 use std::cmp::Ordering;
 
 // More would make the boxes wide, fewer would make them many.
-const STRETCH: usize = 64;
+const STRETCH: usize = 16;
 
 // Successive edges whose near edges are looked up together.
-const BLOCK: usize = 4096;
+const BLOCK: usize = 1024;
 
 // Whether e and f come before g and h: by the first edge, then by the second.
 fn comes_before(e: Edge, f: Edge, g: Edge, h: Edge) -> bool
@@ -182,7 +182,7 @@ fn tried_block(
 
 /// The least two of the edges that cross, the smaller one first. `None` exactly where no two cross.
 ///
-/// For n edges n / 4096 blocks, each compared with n edges by boxes, and then each stretch of 64 of the block with the
+/// For n edges n / 1024 blocks, each compared with n edges by boxes, and then each stretch of 16 of the block with the
 /// edges near the block. Takes the memory of one list of edges for a block.
 pub fn least_crossing(alloc: Global, edges: &[Edge]) -> Result<Option<(Edge, Edge)>, NoMemory>
     ensures { IfOk result (λ found. MatchOption found ((x : Segment × Segment) → IsCrossing edges.now x → ⊥) (IsLeast pair_cmp (IsCrossing edges.now))) }

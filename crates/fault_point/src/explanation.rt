@@ -98,7 +98,7 @@ fn point_fault(area: &ShapeList, parts: &ShapeList, found: FracPt) -> Fault
 /// Why the parts do not tile the area: two border edges that cross, the least pair, or else the first point that lies in
 /// the wrong number of parts. `None` exactly where they tile it. Asks for a sound area and shared vertices.
 ///
-/// It costs a search for two edges that cross, by boxes of 4096 and of 64 successive edges, and one sweep over the border.
+/// It costs a search for two edges that cross, by boxes of 1024 and of 16 successive edges, and one sweep over the border.
 pub fn explain(
     alloc: Global,
     area: &ShapeList,

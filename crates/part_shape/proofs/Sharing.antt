@@ -4,7 +4,7 @@ use Rattle.std.specs.Prelude.{true, ◌&&◌}
 use Rattle.std.specs.List.{AllByRecursion}
 use Rattle.std.proofs.lemmas.Bool.{cases_Bool, and_parts, both_ways}
 use Rattle.std.proofs.lemmas.List.Elements.{All-from_recursion, recursion_from_All}
-use Rattle.rd_plane.specs.Bounds.{Box, IsLeastBox, HaveCommonPoint, LiesInBox}
+use Rattle.rd_plane.specs.Bounds.{Box, IsLeastBox, HaveCommonPoint, LiesInBox, Overlap}
 use Rattle.rd_plane.specs.Covering.{AreApart as AreasApart, covers, covers_any}
 use Rattle.rd_plane.specs.EdgeBoxes.{HoldsEdge, HoldsEdges}
 use Rattle.rd_plane.specs.Plane.{Vertex, Point, point_of, off}
@@ -13,7 +13,7 @@ use Rattle.rd_plane.proofs.Members.{all_left, all_right, all_join}
 use Rattle.rd_plane.proofs.RingEdges.{shape_balance}
 use Rattle.rd_plane.proofs.Winding.{off-append}
 use Rattle.slab_wind.specs.Sharing.{AreOfShape, Share}
-use Rattle.slab_wind.proofs.Outside.{boxes_share}
+use Rattle.slab_wind.proofs.Outside.{boxes_overlap, boxes_share}
 use Rattle.part_shape.specs.Faults.{corners_of}
 use Rattle.part_shape.proofs.InBoxes.{ends_of}
 use Rattle.part_shape.proofs.Joined.{shape_joined}
@@ -30,20 +30,27 @@ rings_held box (ring ∷ rings) h = all_join (HoldsEdge box) (ring_edges ring) (
     (ends_of (λ v. LiesInBox box (point_of v)) ring (all_left (λ v. LiesInBox box (point_of v)) ring (corners_of rings) h))
     (rings_held box rings (all_right (λ v. LiesInBox box (point_of v)) ring (corners_of rings) h))
 
-shape_held : (box : Box) (rings : List (List Vertex)) → IsLeastBox (corners_of rings) box → HoldsEdges box (shape_edges rings)
+pub shape_held : (box : Box) (rings : List (List Vertex)) → IsLeastBox (corners_of rings) box → HoldsEdges box (shape_edges rings)
 shape_held box rings l = All-from_recursion (HoldsEdge box) (shape_edges rings)
     (rings_held box rings (recursion_from_All (λ v. LiesInBox box (point_of v)) (corners_of rings) l.holds))
 
--- shapes that share a point have boxes that meet
+-- shapes that share a point have boxes that overlap
+pub boxes_overlapping : (box other : Box) (s t : List (List Vertex)) → IsLeastBox (corners_of s) box → IsLeastBox (corners_of t) other
+    → Share (shape_edges s) (shape_edges t) → Overlap box other
+boxes_overlapping box other s t l m k
+    = boxes_overlap box other (shape_edges s) (shape_edges t) (shape_held box s l) (shape_held other t m) (shape_balance s) (shape_balance t)
+    k
+
+-- and so a common point
 pub boxes_common : (box other : Box) (s t : List (List Vertex)) → IsLeastBox (corners_of s) box → IsLeastBox (corners_of t) other
     → Share (shape_edges s) (shape_edges t) → HaveCommonPoint box other
 boxes_common box other s t l m k
     = boxes_share box other (shape_edges s) (shape_edges t) (shape_held box s l) (shape_held other t m) (shape_balance s) (shape_balance t)
     k
 
-pub shapes_apart : (box other : Box) (s t : List (List Vertex)) → IsLeastBox (corners_of s) box → IsLeastBox (corners_of t) other
-    → (HaveCommonPoint box other → ⊥) → Share (shape_edges s) (shape_edges t) → ⊥
-shapes_apart box other s t l m n k = n (boxes_common box other s t l m k)
+pub not_overlapping : (box other : Box) (s t : List (List Vertex)) → IsLeastBox (corners_of s) box → IsLeastBox (corners_of t) other
+    → (Overlap box other → ⊥) → Share (shape_edges s) (shape_edges t) → ⊥
+not_overlapping box other s t l m n k = n (boxes_overlapping box other s t l m k)
 
 -- ---- shapes that share no point are apart, and the other way round
 off_one : (p : Point) (s : List (List Vertex)) → off p (all_edges (s ∷ [])) ≡ true → off p (shape_edges s) ≡ true

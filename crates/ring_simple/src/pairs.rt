@@ -171,14 +171,18 @@ fn meets_some_near(points: &[Pt], from: usize, to: usize, j: usize, bounds: &Bou
     meets_some(points, from, to, j, f, &own)
 }
 
-// Whether the edge at j meets an earlier one badly.
+// Whether the edge at j meets an earlier one badly. The one before it ends where it begins, so its box tells nothing.
 fn meets_earlier(points: &[Pt], j: usize) -> bool
     requires corners { HasCorners points.now }
+    requires later { 0 < j }
     requires inside { j < length points.now }
     ensures { IsTrue result ↔ MeetsSomeOf points.now 0 (length points.now) j }
 {
     let f = edge_at(points, j);
-    meets_some(points, 0, points.len(), j, f, &box_of_edge(f))
+    if meets_badly(points, j - 1, edge_at(points, j - 1), j, f) {
+        return true;
+    }
+    meets_some(points, 0, j - 1, j, f, &box_of_edge(f))
 }
 
 // Whether some two edges meet badly. Each is compared with those before it, since no edge lies apart from a short ring.

@@ -5,7 +5,8 @@
 //! the edges east of there add up to. One look at half height in each gap decides it.
 //! Slabs, from the lowest up: edges that end at the lower height leave the row, those that begin there come in.
 //! Cost: for n edges, of which at most k run through one slab, and s heights of corners: sorts of 2n heights and of the n
-//! edges, and one walk over at most k edges for each of the s slabs and for each of the n edges.
+//! edges, and one walk over at most k edges for each of the s slabs; for each edge log k comparisons, and those east of it
+//! are moved by one.
 //! After the sweep of Shamos and Hoey (Geometric intersection problems, 1976), with whole slabs and a list in place of a
 //! tree; it sums winding numbers and looks for no crossing.
 
