@@ -5,9 +5,9 @@ use Rattle.std.proofs.lemmas.List.{set-get_or, get_or-set_same, get_or-set_other
 use Rattle.std.proofs.lemmas.Option.{slice_get_read, get_or_from_slice_get}
 use Rattle.std.proofs.lemmas.List.Sums.{sum_by_push}
 use Rattle.edge_arena.specs.Contents.{Contents, Changes}
-use Rattle.edge_arena.specs.Undo.{undo, undo_all, live, times, IsExact, IsSoundArena, MayUndo, AreSound}
+use Rattle.edge_arena.specs.Undo.{undo, undo_all, live, times, IsExact, IsSoundArena, MayUndo, AreSound, IsNoted}
 use Rattle.edge_arena.specs.declared.arena.Change.{Change}
-use Rattle.edge_arena.specs.declared.arena.Change.TheVariants.{Reused, Grown, Changed, Removed}
+use Rattle.edge_arena.specs.declared.arena.Change.TheVariants.{Began, Reused, Grown, Changed, Removed}
 
 pub times-push : (t s : ℕ) (free : List ℕ) → times t (free ++ s ∷ []) ≡ times t free + cond (eqb s t) 1 0
 times-push t s free = sum_by_push (λ f. cond (eqb f t) 1 0) free s
@@ -56,13 +56,28 @@ module _ {T : Type 0} where
   AreSound-more m n v w [] c a b h = more_room m n v w c a b h
   AreSound-more m n v w (x ∷ xs) c a b h = (AreSound-more m n v w xs c a b h.0, h.1, more_room m n v w _ a b h.2)
 
-  pub step_sound : (m n : ℕ) (xs : List (Change T)) (x : Change T) (old new : Contents T) → undo x new ≡ old → IsSoundArena m n new
-      → MayUndo x new → AreSound m n xs old → AreSound m n (xs ++ x ∷ []) new
-  step_sound m n xs x old new e s may h = AreSound-push m n xs x new s may (subst (AreSound m n xs) (sym e) h)
+  -- behind a log that takes all back any sound state may stand
+  began_sound : (m n : ℕ) (init : List (Change T)) (old new : Contents T) → IsSoundArena m n new
+      → AreSound m n (init ++ Began ∷ []) old → AreSound m n (init ++ Began ∷ []) new
+  began_sound m n init old new s h = let t = AreSound-pop m n init Began old h in AreSound-push m n init Began new s t.1 t.2
 
-  pub step_kept : (xs : List (Change T)) (x : Change T) (old new : Contents T) → undo x new ≡ old
-      → undo_all (xs ++ x ∷ []) new ≡ undo_all xs old
-  step_kept xs x old new e = undo_all-push xs x new ∙ ap (undo_all xs) e
+  began_kept : (init : List (Change T)) (old new : Contents T)
+      → undo_all (init ++ Began ∷ []) new ≡ undo_all (init ++ Began ∷ []) old
+  began_kept init old new = undo_all-push init Began new ∙ sym (undo_all-push init Began old)
+
+  pub step_sound : (m n : ℕ) (xs log : List (Change T)) (x : Change T) (old new : Contents T) → IsNoted xs x log → undo x new ≡ old
+      → IsSoundArena m n new → MayUndo x new → AreSound m n xs old → AreSound m n log new
+  step_sound m n xs log x old new (inl is) e s may h
+      = subst (λ l. AreSound m n l new) (sym is) (AreSound-push m n xs x new s may (subst (AreSound m n xs) (sym e) h))
+  step_sound m n xs log x old new (inr (same, (init, at))) e s may h =
+      let before = subst (λ l. AreSound m n l old) at h in
+      subst (λ l. AreSound m n l new) (sym (same ∙ at)) (began_sound m n init old new s before)
+
+  pub step_kept : (xs log : List (Change T)) (x : Change T) (old new : Contents T) → IsNoted xs x log → undo x new ≡ old
+      → undo_all log new ≡ undo_all xs old
+  step_kept xs log x old new (inl is) e = ap (λ l. undo_all l new) is ∙ undo_all-push xs x new ∙ ap (undo_all xs) e
+  step_kept xs log x old new (inr (same, (init, at))) e
+      = ap (λ l. undo_all l new) (same ∙ at) ∙ began_kept init old new ∙ ap (λ l. undo_all l old) (sym at)
 
   -- a write that is written back
   pub set_back : (xs : List (Option T)) (s : ℕ) (a b : Option T) → get_or xs s None ≡ a → set (set xs s b) s a ≡ xs
@@ -165,13 +180,13 @@ module _ {T : Type 0} where
   set_back_is xs free s v w found
       = ap (λ (ys : List (Option T)). record { slots = ys; free = free }) (set_back xs s (Some v) (Some w) found)
 
-  pub set_sound : (m n : ℕ) (log : List (Change T)) (xs : List (Option T)) (free : List ℕ) (s : ℕ) (v w : T) → get_or xs s None ≡ Some v
-      → AreSound m n log (record { slots = xs; free = free })
-      → AreSound m n (log ++ Changed s v ∷ []) (record { slots = set xs s (Some w); free = free })
-  set_sound m n log xs free s v w found h =
+  pub set_sound : (m n : ℕ) (log next : List (Change T)) (xs : List (Option T)) (free : List ℕ) (s : ℕ) (v w : T)
+      → IsNoted log (Changed s v) next → get_or xs s None ≡ Some v → AreSound m n log (record { slots = xs; free = free })
+      → AreSound m n next (record { slots = set xs s (Some w); free = free })
+  set_sound m n log next xs free s v w noted found h =
       let now = AreSound-now m n log _ h in
       let k = value_within xs s v found in
-      step_sound m n log (Changed s v) (record { slots = xs; free = free }) (record { slots = set xs s (Some w); free = free })
+      step_sound m n log next (Changed s v) (record { slots = xs; free = free }) (record { slots = set xs s (Some w); free = free }) noted
       (set_back_is xs free s v w found)
       (record {
         exact = exact_set xs free free s (Some w) now.exact k (ap (λ o. times s free + live o) (sym found)) (λ t d. refl);
@@ -185,14 +200,15 @@ module _ {T : Type 0} where
   remove_back_is xs free s v found
       = ap₂ (λ (ys : List (Option T)) (f : List ℕ). record { slots = ys; free = f }) (set_back xs s (Some v) None found) (take_push free s)
 
-  pub remove_sound : (m n : ℕ) (log : List (Change T)) (xs : List (Option T)) (free : List ℕ) (s : ℕ) (v : T) → get_or xs s None ≡ Some v
-      → length free + 1 ≤ n → AreSound m n log (record { slots = xs; free = free })
-      → AreSound m n (log ++ Removed s v ∷ []) (record { slots = set xs s None; free = free ++ s ∷ [] })
-  remove_sound m n log xs free s v found room h =
+  pub remove_sound : (m n : ℕ) (log next : List (Change T)) (xs : List (Option T)) (free : List ℕ) (s : ℕ) (v : T)
+      → IsNoted log (Removed s v) next → get_or xs s None ≡ Some v → length free + 1 ≤ n
+      → AreSound m n log (record { slots = xs; free = free })
+      → AreSound m n next (record { slots = set xs s None; free = free ++ s ∷ [] })
+  remove_sound m n log next xs free s v noted found room h =
       let now = AreSound-now m n log _ h in
       let k = value_within xs s v found in
-      step_sound m n log (Removed s v) (record { slots = xs; free = free }) (record { slots = set xs s None; free = free ++ s ∷ [] })
-      (remove_back_is xs free s v found)
+      step_sound m n log next (Removed s v) (record { slots = xs; free = free }) (record { slots = set xs s None; free = free ++ s ∷ [] })
+      noted (remove_back_is xs free s v found)
       (record {
         exact = exact_set xs free (free ++ s ∷ []) s None now.exact k (omega (arith, times-push_same s free, ap live found))
             (λ t d. times-push_other t s free d);
@@ -206,15 +222,15 @@ module _ {T : Type 0} where
   put_back_is xs free s w vacant
       = ap (λ (ys : List (Option T)). record { slots = ys; free = free ++ s ∷ [] }) (set_back xs s None (Some w) vacant)
 
-  pub put_sound : (m n : ℕ) (log : List (Change T)) (xs : List (Option T)) (free : List ℕ) (s : ℕ) (w : T)
-      → AreSound m n log (record { slots = xs; free = free ++ s ∷ [] })
-      → AreSound m n (log ++ Reused s ∷ []) (record { slots = set xs s (Some w); free = free })
-  put_sound m n log xs free s w h =
+  pub put_sound : (m n : ℕ) (log next : List (Change T)) (xs : List (Option T)) (free : List ℕ) (s : ℕ) (w : T)
+      → IsNoted log (Reused s) next → AreSound m n log (record { slots = xs; free = free ++ s ∷ [] })
+      → AreSound m n next (record { slots = set xs s (Some w); free = free })
+  put_sound m n log next xs free s w noted h =
       let now = AreSound-now m n log _ h in
       let k = free_within xs free s now.exact in
       let vacant = free_vacant xs free s now.exact in
-      step_sound m n log (Reused s) (record { slots = xs; free = free ++ s ∷ [] }) (record { slots = set xs s (Some w); free = free })
-      (put_back_is xs free s w vacant)
+      step_sound m n log next (Reused s) (record { slots = xs; free = free ++ s ∷ [] }) (record { slots = set xs s (Some w); free = free })
+      noted (put_back_is xs free s w vacant)
       (record {
         exact = exact_set xs (free ++ s ∷ []) free s (Some w) now.exact k (omega (arith, times-push_same s free, ap live vacant))
             (λ t d. sym (times-push_other t s free d));
@@ -223,18 +239,15 @@ module _ {T : Type 0} where
       })
       (omega (arith, length-set xs s (Some w), k)) h
 
-  pub grow_back_is : (xs : List (Option T)) (w : T)
-      → undo Grown (record { slots = xs ++ Some w ∷ []; free = [] }) ≡ record { slots = xs; free = [] }
-  grow_back_is xs w = ap (λ (ys : List (Option T)). record { slots = ys; free = [] }) (take_push xs (Some w))
-
-  pub grow_sound : (m n : ℕ) (log : List (Change T)) (xs : List (Option T)) (w : T) → length xs + 1 ≤ m
-      → AreSound m n log (record { slots = xs; free = [] })
-      → AreSound m n (log ++ Grown ∷ []) (record { slots = xs ++ Some w ∷ []; free = [] })
-  grow_sound m n log xs w room h =
+  pub grow_sound : (m n : ℕ) (log next : List (Change T)) (x : Change T) (xs : List (Option T)) (w : T) → IsNoted log x next
+      → undo x (record { slots = xs ++ Some w ∷ []; free = [] }) ≡ record { slots = xs; free = [] }
+      → MayUndo x (record { slots = xs ++ Some w ∷ []; free = [] }) → length xs + 1 ≤ m
+      → AreSound m n log (record { slots = xs; free = [] }) → AreSound m n next (record { slots = xs ++ Some w ∷ []; free = [] })
+  grow_sound m n log next x xs w noted back may room h =
       let now = AreSound-now m n log _ h in
-      step_sound m n log Grown (record { slots = xs; free = [] }) (record { slots = xs ++ Some w ∷ []; free = [] }) (grow_back_is xs w)
+      step_sound m n log next x (record { slots = xs; free = [] }) (record { slots = xs ++ Some w ∷ []; free = [] }) noted back
       (record { exact = exact_push xs w now.exact; slots_fit = omega (arith, length_push xs (Some w), room); free_fit = now.free_fit })
-      (omega (arith, length_push xs (Some w))) h
+      may h
 
 pub last_push : {X : Type 0} (xs : List X) (x d : X) → get_or (xs ++ x ∷ []) (length (xs ++ x ∷ []) - 1) d ≡ x
 last_push xs x d =

@@ -1,16 +1,19 @@
 -- The log of an arena, by which its changes are taken back.
 --
---    change    Reused 3       Grown          Changed 1 v      Removed 0 v
---    undone    3 is free      the last slot  1 holds v        0 holds v, and is
---              again, as the  is gone        again            no longer the last
---              last free one                                  free one
-use Rattle.std.specs.Prelude.{◌≡◌, ◌-◌, ◌+◌, ◌≤◌, ◌<◌, ℕ, cond, eqb, ltb, List, [], ◌∷◌, ◌++◌, length, take, Option, Some, None, slice_index_or, slice_set, count_by}
-use Rattle.edge_arena.specs.Contents.{Contents}
+--    change    Began      Reused 3       Grown          Changed 1 v      Removed 0 v
+--    undone    no slot    3 is free      the last slot  1 holds v        0 holds v, and is
+--              is left    again, as the  is gone        again            no longer the last
+--                         last free one                                  free one
+--
+-- Behind Began nothing is logged: what came since is gone with the first slot.
+use Rattle.std.specs.Prelude.{◌≡◌, ◌-◌, ◌+◌, ◌≤◌, ◌<◌, ◌⊎◌, ⊤, ℕ, cond, eqb, ltb, List, [], ◌∷◌, ◌++◌, length, take, Option, Some, None, slice_index_or, slice_set, count_by}
+use Rattle.edge_arena.specs.Contents.{Contents, nothing}
 use Rattle.edge_arena.specs.declared.arena.Change.{Change}
-use Rattle.edge_arena.specs.declared.arena.Change.TheVariants.{Reused, Grown, Changed, Removed}
+use Rattle.edge_arena.specs.declared.arena.Change.TheVariants.{Began, Reused, Grown, Changed, Removed}
 
 -- what stood before the change
 abbrev pub undo : {T : Type 0} → Change T → Contents T → Contents T
+undo Began c = nothing
 undo (Reused s) c = record { slots = slice_set c.slots s None; free = c.free ++ s ∷ [] }
 undo Grown c = record { slots = take (length c.slots - 1) c.slots; free = c.free }
 undo (Changed s v) c = record { slots = slice_set c.slots s (Some v); free = c.free }
@@ -20,6 +23,10 @@ undo (Removed s v) c = record { slots = slice_set c.slots s (Some v); free = tak
 abbrev pub undo_all : {T : Type 0} → List (Change T) → Contents T → Contents T
 undo_all [] c = c
 undo_all (x ∷ xs) c = undo x (undo_all xs c)
+
+-- the change is logged behind the others, unless these take all back already
+abbrev pub IsNoted : {T : Type 0} → List (Change T) → Change T → List (Change T) → Type 0
+IsNoted {T} old x new = (new ≡ old ++ x ∷ []) ⊎ ((new ≡ old) × ((init : List (Change T)) × (old ≡ init ++ Began ∷ [])))
 
 -- 1 where there is a value, else 0
 abbrev pub live : {T : Type 0} → Option T → ℕ
@@ -42,6 +49,7 @@ pub record IsSoundArena {T : Type 0} (slot_room free_room : ℕ) (c : Contents T
 
 -- the slot of the change is one of the slots
 abbrev pub MayUndo : {T : Type 0} → Change T → Contents T → Type 0
+MayUndo Began c = ⊤
 MayUndo (Reused s) c = s < length c.slots
 MayUndo Grown c = 0 < length c.slots
 MayUndo (Changed s v) c = s < length c.slots

@@ -1,5 +1,6 @@
-ghost use Rattle.std.specs.Prelude.{◌≡◌, ◌≤◌, ◌<◌, ◌+◌, ◌-◌, ◌++◌, ◌∷◌, ◌^◌, [], length, take, IsSome, Some, None, OnOk, OnErr};
+ghost use Rattle.std.specs.Prelude.{◌≡◌, ◌≤◌, ◌<◌, ◌+◌, ◌-◌, ◌++◌, ◌∷◌, ◌^◌, [], List, Option, length, take, vec_len, vec_capacity, IsSome, Some, None, OnOk, OnErr};
 ghost use Rattle.edge_arena.specs.Contents.{nothing, value_at, next_slot, Changes};
+ghost use Rattle.edge_arena.specs.Undo.{IsNoted, MayUndo, undo};
 
 use crate::steps::Steps;
 use rd_plane::NoMemory;
@@ -14,6 +15,8 @@ pub struct Slot(pub usize);
 // What takes a change back.
 #[derive(Clone, Copy)]
 pub(crate) enum Change<T> {
+    // The first slot was added. Nothing stood before, so it takes back whatever came since.
+    Began,
     // The last free slot was filled.
     Reused(usize),
     // A slot was added at the end.
@@ -52,6 +55,31 @@ impl<T> Model for Arena<T> {
         × (vec_len a.slots + a.spare ≤ vec_capacity a.slots)
         × (vec_len a.free + a.spare ≤ vec_capacity a.free)
         × (vec_len a.log + a.spare ≤ vec_capacity a.log) };
+}
+
+// What takes back a slot that was added behind so many.
+fn added<T>(slots: usize) -> Change<T>
+    ensures back { (xs : List (Option T)) (o : Option T) → length xs ≡ slots → undo result (record { slots = xs ++ o ∷ []; free = [] }) ≡ record { slots = xs; free = [] } }
+    ensures may { (xs : List (Option T)) (o : Option T) → MayUndo result (record { slots = xs ++ o ∷ []; free = [] }) }
+{
+    if slots == 0 {
+        return Change::Began;
+    }
+    Change::Grown
+}
+
+// Logs a change. Where nothing stood at the last `keep` the log says so, and no more is needed: a first load is taken
+// back with no old values at hand.
+fn note<T: Copy>(log: &mut Vec<Change<T>>, change: Change<T>)
+    requires { vec_len log.old < vec_capacity log.old }
+    ensures items { IsNoted log.old.items change log.new.items }
+    ensures len { vec_len log.new ≤ vec_len log.old + 1 }
+    ensures capacity { vec_capacity log.new ≡ vec_capacity log.old }
+{
+    if let Some(Change::Began) = log.last() {
+        return;
+    }
+    log.push_reserved(change);
 }
 
 impl<T: Copy> Arena<T> {
@@ -101,13 +129,13 @@ impl<T: Copy> Arena<T> {
         match self.free.pop() {
             Some(slot) => {
                 self.slots[slot] = Some(value);
-                self.log.push_reserved(Change::Reused(slot));
+                note(&mut self.log, Change::Reused(slot));
                 Slot(slot)
             }
             None => {
                 let slot = self.slots.len();
                 self.slots.push_reserved(Some(value));
-                self.log.push_reserved(Change::Grown);
+                note(&mut self.log, added(slot));
                 Slot(slot)
             }
         }
@@ -140,7 +168,7 @@ impl<T: Copy> Arena<T> {
         match self.slots[place] {
             Some(old) => {
                 self.slots[place] = Some(value);
-                self.log.push_reserved(Change::Changed(place, old));
+                note(&mut self.log, Change::Changed(place, old));
             }
             None => unreachable!(),
         }
@@ -163,7 +191,7 @@ impl<T: Copy> Arena<T> {
             Some(old) => {
                 self.slots[place] = None;
                 self.free.push_reserved(place);
-                self.log.push_reserved(Change::Removed(place, old));
+                note(&mut self.log, Change::Removed(place, old));
             }
             None => unreachable!(),
         }
@@ -190,6 +218,10 @@ impl<T: Copy> Arena<T> {
         self.spare = 0;
         while let Some(change) = self.log.pop() {
             match change {
+                Change::Began => {
+                    self.slots.clear();
+                    self.free.clear();
+                }
                 Change::Reused(slot) => {
                     self.slots[slot] = None;
                     self.free.push_reserved(slot);

@@ -28,8 +28,8 @@ pub type Borders = Listed<Border>;
 pub struct HalfEdge {
     /// The directed edge.
     pub edge: Edge,
-    /// The side that goes on where this one ends, on the same ring.
-    pub next: Slot,
+    // The side that goes on where this one ends, on the same ring. No call tells of it, so it is no promise.
+    pub(crate) next: Slot,
     /// The other side of the edge. `None` only inside a change, until that side is in.
     pub twin: Option<Slot>,
     /// Whose ground lies at its left.

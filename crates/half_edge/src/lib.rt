@@ -7,6 +7,7 @@
 
 mod border;
 mod ground;
+mod key;
 mod keys;
 mod rings;
 mod seek;

@@ -1,5 +1,5 @@
 -- What ties the half-edges and the places to the map, through a try and a commit.
-use Rattle.std.proofs.Common.{◌≡◌, ◌≤◌, ◌+◌, ℕ, true, false, List, [], ◌∷◌, length, refl, sym, ap, ◌∙◌, arith, subst}
+use Rattle.std.proofs.Common.{◌≡◌, ◌⊎◌, inl, inr, ◌≤◌, ◌+◌, ℕ, true, false, List, [], ◌∷◌, length, refl, sym, ap, ◌∙◌, arith, subst}
 use Rattle.std.specs.Prelude.{Option, Some, None, IsSome, reverse, option_map, vec_len, vec_capacity}
 use Rattle.std.specs.List.{All}
 use Rattle.std.proofs.lemmas.List.{length-reverse, reverse-append, reverse-reverse}
@@ -90,15 +90,21 @@ module _ (now : Map) (parts : Places) (tried : Option Tried) (ground : Standing)
   linked_before = subst (IsLinked parts.numbers (standing ground.kept)) (sym same_map)
       (grown_linked now.parts.numbers parts.numbers grown (standing ground.kept) (parts_of now) at_rest.1.now)
 
-  -- the change is not tried
-  pub as_before : (g : Standing) → g.slots ≡ ground.slots → g.kept ≡ ground.kept → g.tried ≡ false → Holds next tried g
+  -- the change is not tried: what stands is what stands in the ground, or what stood
+  either : (g : Standing) → (g.slots ≡ ground.slots) ⊎ (g.slots ≡ ground.kept) → IsLinked parts.numbers (stands g) (parts_of next)
+  either g (inl same)
+      = subst (λ (xs : List (Option HalfEdge)). IsLinked parts.numbers (standing xs) (parts_of next)) (sym same) linked_now
+  either g (inr back)
+      = subst (λ (xs : List (Option HalfEdge)). IsLinked parts.numbers (standing xs) (parts_of next)) (sym back) linked_before
+
+  pub as_before : (g : Standing) → (g.slots ≡ ground.slots) ⊎ (g.slots ≡ ground.kept) → g.kept ≡ ground.kept → g.tried ≡ false → Holds next tried g
   as_before g here kept flag = subst (λ (t : Option Tried). Holds next t g) (sym idle) (
     record { now = right_now; tried = tt },
     record {
       numbering = numbering;
       tried = flag;
       now = subst (λ (xs : List (Option HalfEdge)). IsLinked parts.numbers (standing xs) (parts_of next)) (sym kept) linked_before;
-      next = subst (λ (xs : List (Option HalfEdge)). IsLinked parts.numbers (standing xs) (parts_of next)) (sym here) linked_now;
+      next = either g here;
     },
     record { placed = still_placed; boxed = still_boxed; room = tt },
   )
