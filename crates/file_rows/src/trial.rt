@@ -27,7 +27,7 @@ fn tried(
 }
 
 // The size, and the five lines.
-const ROWS: [(&str, &[u8]); 3] = [
+const ROWS: [(&str, &[u8]); 4] = [
     (
         "2",
         b"TRIAL 2\nACCEPTED 3\nREFUSED 1\nOBJECTS 4\nVERSIONS 7\n",
@@ -39,6 +39,10 @@ const ROWS: [(&str, &[u8]); 3] = [
     (
         "20",
         b"TRIAL 20\nACCEPTED 21\nREFUSED 1\nOBJECTS 400\nVERSIONS 430\n",
+    ),
+    (
+        "400",
+        b"TRIAL 400\nACCEPTED 401\nREFUSED 1\nOBJECTS 160000\nVERSIONS 160600\n",
     ),
 ];
 
