@@ -83,14 +83,32 @@ def comb(corners):
 
 
 def holes(count, corners):
-    """A message with one object at level 1 that has this many holes of this many corners, each a comb of its own."""
+    """A message with one object at level 1 that has this many holes of this many corners, each a comb of its own, 16 in a row."""
     lines = [HEAD, f"T G0001.{1:032} {ITEM.replace(' 0 ', ' 1 ', 1)}",
              ring([(100_000_000, 400_000_000), (200_000_000, 400_000_000), (200_000_000, 401_000_000), (100_000_000, 401_000_000)])]
     for h in range(count):
-        west = 100_010_000 + 100_000 * h
-        low = [(west + 200 * (k + 1), 400_790_000 if k % 2 else 400_700_000) for k in range(corners - 2)]
-        points = [(west, 400_800_000)] + low + [(west + 200 * corners, 400_800_000)]
+        west, south = 100_010_000 + 100_000 * (h % 16), 400_010_000 + 60_000 * (h // 16)
+        low = [(west + 200 * (k + 1), south + 40_000 * (k % 2)) for k in range(corners - 2)]
+        points = [(west, south + 50_000)] + low + [(west + 200 * corners, south + 50_000)]
         lines.append("GAT" + ring(points[::-1])[4:])
+    return "\n".join(lines + ["EINDE", ""]).encode()
+
+
+def diagonal(teeth):
+    """A message whose area is a comb that runs north-east, with teeth of 141 m that run north-west, side by side: the boxes of all overlap.
+    Each tooth is an object, and so is each 4,000 of what they stand on."""
+    base = [(100_000_000 + 8 * i, 400_000_000 + 8 * i) for i in range(teeth + 1)]
+    tips = [(x + 4 - 100_000, y + 4 + 100_000) for x, y in base[:-1]]
+    cuts = list(range(0, teeth, 4_000)) + [teeth]
+    below = lambda i: (base[i][0] + 10_000, base[i][1] - 10_000)
+    upper = [base[teeth]]
+    for i in range(teeth - 1, -1, -1):
+        upper += [tips[i], base[i]]
+    lines = [HEAD, "GEBIED", ring([below(i) for i in cuts] + upper)]
+    objects = [[base[i], base[i + 1], tips[i]] for i in range(teeth)]
+    objects += [[below(i), below(j)] + base[i:j + 1][::-1] for i, j in zip(cuts, cuts[1:])]
+    for k, points in enumerate(objects):
+        lines += [f"T G0001.{k + 1:032} {ITEM}", ring(points)]
     return "\n".join(lines + ["EINDE", ""]).encode()
 
 
@@ -133,6 +151,8 @@ def main():
         told("strip of 16,000 cells, 64,002 corners", instructions(strip(16_000), "check") / million, 600, "M")
     if wanted("holes"):
         told("255 holes of 400 corners", instructions(holes(255, 400), "check") / million, 1200, "M")
+    if wanted("diagonal"):
+        told("diagonal comb of 65,533 corners, as an area", plain(diagonal(32_761), "check")[0], 1, "s")
     if large and wanted("trial"):
         seconds, megabytes = plain(b"", "trial", "400")
         told("trial 400", seconds, 4, "s")
