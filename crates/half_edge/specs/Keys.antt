@@ -1,13 +1,12 @@
 -- Which slot an edge has, now and at the last `keep`.
 use Rattle.std.specs.Prelude.{◌≡◌, ◌≢◌, Option}
-use Rattle.std.specs.Map.{lookup}
 use Rattle.rd_plane.specs.Plane.{Segment}
 use Rattle.edge_arena.specs.declared.arena.Slot.{Slot}
-use Rattle.half_edge.specs.KeyMap.{KeyMap, segment_eq, undo_keys}
+use Rattle.half_edge.specs.KeyMap.{KeyMap, slot_in, undo_keys}
 
 -- the slot of the edge, where it stands
 abbrev pub slot_at : KeyMap → Segment → Option Slot
-slot_at k e = lookup (segment_eq e) k.entries
+slot_at k e = slot_in k.entries e
 
 -- the slot that it had at the last `keep`
 abbrev pub kept_at : KeyMap → Segment → Option Slot

@@ -1,5 +1,6 @@
 ghost use Rattle.std.specs.Prelude.{◌≡◌};
-ghost use Rattle.half_edge.specs.KeyMap.{key_of};
+ghost use Rattle.rd_plane.specs.Grid.{IsInGrid};
+ghost use Rattle.half_edge.specs.KeyMap.{key_of, runs_back};
 
 use rd_plane::{Edge, Pt};
 
@@ -10,31 +11,58 @@ pub(crate) struct Corner {
     pub y: i32,
 }
 
-/// A directed edge as the key of its slot. It takes half the bytes of the edge.
+/// An edge, whichever way it runs, as the key of the slots of its sides: from its lesser corner to the other.
 #[derive(Clone, Copy, PartialEq, Eq, Hash)]
 pub(crate) struct Key {
     pub a: Corner,
     pub b: Corner,
 }
 
-// The corner of the point.
-fn corner_at(p: Pt) -> Corner
-    ensures { result ≡ record { x = p.x; y = p.y } }
-{
-    Corner {
-        x: p.x as i32,
-        y: p.y as i32,
+impl Corner {
+    /// The corner at the point.
+    #[inline(always)]
+    pub(crate) fn at(point: Pt) -> Corner
+        ensures { result ≡ record { x = point.x; y = point.y } }
+    {
+        Corner {
+            x: point.x as i32,
+            y: point.y as i32,
+        }
+    }
+
+    /// The point of a corner of the grid.
+    #[inline(always)]
+    pub(crate) fn point(self) -> Pt
+        requires { IsInGrid (record { x = self.x; y = self.y }) }
+        ensures { result ≡ record { x = self.x; y = self.y } }
+    {
+        Pt {
+            x: self.x as i64,
+            y: self.y as i64,
+        }
     }
 }
 
+/// Whether the edge runs against its key. With no branch: which way an edge runs is as good as chance.
+#[inline(always)]
+pub(crate) fn is_back(edge: Edge) -> bool
+    ensures { result ≡ runs_back edge }
+{
+    let down = (edge.a.x == edge.b.x) & (edge.b.y < edge.a.y);
+    down | (edge.b.x < edge.a.x)
+}
+
 impl Key {
-    /// The key of the edge.
+    /// The key of the edge, and of its reverse.
+    #[inline(always)]
     pub(crate) fn of(edge: Edge) -> Key
         ensures { result ≡ key_of edge }
     {
-        Key {
-            a: corner_at(edge.a),
-            b: corner_at(edge.b),
+        let a = Corner::at(edge.a);
+        let b = Corner::at(edge.b);
+        if is_back(edge) {
+            return Key { a: b, b: a };
         }
+        Key { a, b }
     }
 }

@@ -11,6 +11,8 @@ mod key;
 mod keys;
 mod rings;
 mod seek;
+mod stored;
+mod ways;
 mod weave;
 
 pub use border::{Border, Borders, GroundFault, HalfEdge, Owner};
