@@ -29,7 +29,7 @@ pub struct Item {
 }
 
 impl Item {
-    /// An equal item with lists of its own. `NoMemory` where there is no memory for its rings.
+    /// An equal item, with the same corners where its rings are shared. `NoMemory` where there is no memory for its rings.
     pub fn copy(&self, alloc: Global) -> Result<Item, NoMemory>
         ensures { IfOk result (λ item. item ≡ self.now) }
     {

@@ -23,7 +23,7 @@ fn item_of(alloc: Global, ring: Ring) -> Result<Item, NoMemory>
         voorkomen: Some(greenery()),
         soort: None,
         pand: None,
-        rings,
+        rings: rings.shared(alloc)?,
     })
 }
 

@@ -35,7 +35,7 @@ fn area_of(alloc: Global, outer: Ring) -> Result<Shapes, NoMemory>
     let mut rings = Rings::with_capacity(alloc, 1)?;
     rings.push(outer)?;
     let mut shapes = Shapes::with_capacity(alloc, 1)?;
-    shapes.push(rings)?;
+    shapes.push(rings.shared(alloc)?)?;
     Ok(shapes)
 }
 
