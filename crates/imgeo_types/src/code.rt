@@ -12,7 +12,8 @@ use std::marker::Model;
 pub struct Code {
     // Zeros stand behind the code.
     bytes: [u8; 64],
-    len: usize,
+    // One byte, since every object is held with four of these.
+    len: u8,
 }
 
 impl Model for Code {
@@ -62,7 +63,7 @@ impl Code {
         }
         Some(Code {
             bytes: filled_to_64(field),
-            len: field.len(),
+            len: field.len() as u8,
         })
     }
 
@@ -71,7 +72,7 @@ impl Code {
         ensures value { result.now ≡ self.now }
         ensures is { IsCode self.now }
     {
-        &self.bytes[..self.len]
+        &self.bytes[..usize::from(self.len)]
     }
 }
 

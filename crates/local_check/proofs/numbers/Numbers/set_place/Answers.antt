@@ -9,16 +9,16 @@ pub returns-in-Some-clause-same : goal.returns-in-Some-clause-same
 returns-in-Some-clause-same c =
     let old = c.args.self.now in
     let moved : Known = record { number = c.in-Some.known.now.number; place = c.args.place } in
-    let found : Some c.in-Some.known.now ≡ known_at old c.args.ident = rw c.in-Some.is at c.get_mut.ensures.value in
+    let found : Some c.in-Some.known.now ≡ known_at old c.args.ident = rw (c.of.ensures, c.in-Some.is) at c.get_mut.ensures.value in
     moved_same old (record { by_ident = c.get_mut.follows.lender moved; next = old.next }) c.args.ident c.in-Some.known.now c.args.place
     found
-    ((c.get_mut.follows.holds moved).3 (rw (sym found) refl)).0
+    (rw c.of.ensures at ((c.get_mut.follows.holds moved).3 (rw (c.of.ensures, sym found) refl)).0)
 
 pub returns-in-Some-clause-elsewhere : goal.returns-in-Some-clause-elsewhere
 returns-in-Some-clause-elsewhere c =
     let old = c.args.self.now in
     let moved : Known = record { number = c.in-Some.known.now.number; place = c.args.place } in
-    let found : Some c.in-Some.known.now ≡ known_at old c.args.ident = rw c.in-Some.is at c.get_mut.ensures.value in
+    let found : Some c.in-Some.known.now ≡ known_at old c.args.ident = rw (c.of.ensures, c.in-Some.is) at c.get_mut.ensures.value in
     moved_elsewhere old (record { by_ident = c.get_mut.follows.lender moved; next = old.next }) c.args.ident c.in-Some.known.now
     c.args.place found
-    ((c.get_mut.follows.holds moved).3 (rw (sym found) refl)).0
+    (rw c.of.ensures at ((c.get_mut.follows.holds moved).3 (rw (c.of.ensures, sym found) refl)).0)
