@@ -1,8 +1,8 @@
 //! A failing call at each place of a run, and an input as long as its limit.
 
 use crate::messages::FIRST;
-use crate::runs::{answered, joined};
-use bgt_cli::{Status, run};
+use crate::runs::{answered, joined, ran};
+use bgt_cli::Status;
 use message_text::Limits;
 use outside::MemOutside;
 use std::alloc::Global;
@@ -17,7 +17,7 @@ const LINE: &[u8] = b"1 OK\n";
 fn failing(alloc: Global, call: u64, piece: usize) -> Result<(Vec<u8>, Status), Fail> {
     let piece = piece.max(1);
     let mut outside = MemOutside::new(alloc, FIRST.as_bytes(), b"", piece, &[call], None, 1 << 20)?;
-    let status = run(alloc, &["check"], &Limits::standard(), &mut outside);
+    let status = ran(alloc, &["check"], &Limits::standard(), &mut outside);
     Ok((outside.told().to_vec(alloc)?, status))
 }
 
@@ -63,7 +63,7 @@ fn all_calls_stop(rt: HostRuntime) -> Result<(), Fail> {
     for (stop, bytes, ends) in rows {
         let input = FIRST.as_bytes();
         let mut outside = MemOutside::new(rt.alloc(), input, b"", PIECE, &[], Some(stop), 1 << 20)?;
-        let status = run(rt.alloc(), &["check"], &Limits::standard(), &mut outside);
+        let status = ran(rt.alloc(), &["check"], &Limits::standard(), &mut outside);
         assert_eq!(rt; outside.told(), &LINE[..bytes], "stop {stop}");
         assert_eq!(rt; status, ends, "stop {stop}");
     }
@@ -78,7 +78,7 @@ fn usage_is_cut_short(rt: HostRuntime) -> Result<(), Fail> {
         (3, b"USAGE\n".as_slice()),
     ] {
         let mut outside = MemOutside::new(rt.alloc(), b"x", b"", 3, &[call], None, 1 << 20)?;
-        let status = run(rt.alloc(), &["chec"], &Limits::standard(), &mut outside);
+        let status = ran(rt.alloc(), &["chec"], &Limits::standard(), &mut outside);
         assert_eq!(rt; outside.told(), front, "call {call}");
         let ends = if call < 3 {
             Status::WriteFault
@@ -133,7 +133,7 @@ fn no_reply_waits_for_the_next_piece(rt: HostRuntime) -> Result<(), Fail> {
         Some(stop),
         1 << 20,
     )?;
-    let status = run(rt.alloc(), &["check"], &Limits::standard(), &mut outside);
+    let status = ran(rt.alloc(), &["check"], &Limits::standard(), &mut outside);
     assert_eq!(rt; outside.told(), LINE);
     assert_eq!(rt; status, Status::ReadFault);
     Ok(())

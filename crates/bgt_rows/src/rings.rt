@@ -1,6 +1,7 @@
 //! The worked rows of `rings`: what is said of each line, of a tail and of other words, and what fails.
 
-use bgt_cli::{Status, run};
+use crate::runs::ran;
+use bgt_cli::Status;
 use message_text::{Limits, read_ring};
 use outside::{Call, MemOutside};
 use std::alloc::Global;
@@ -32,11 +33,7 @@ fn judged(
         None,
         1 << 16,
     )?;
-    let ends = if limits.is_valid() {
-        run(alloc, &["rings"], limits, &mut outside)
-    } else {
-        Status::Usage
-    };
+    let ends = ran(alloc, &["rings"], limits, &mut outside);
     let is_quiet = outside.entries().iter().all(|call| matches!(
         call,
         Call::Took { .. } | Call::TakeFailed | Call::Gave { .. } | Call::GiveFailed

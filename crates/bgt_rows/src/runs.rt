@@ -15,6 +15,16 @@ pub fn joined(alloc: Global, texts: &[&str]) -> Result<String, AllocError> {
     Ok(stream)
 }
 
+/// How a run over this outside ends; `Usage` where the limits are not valid, and then nothing is run. It says nothing of the run, so
+/// that a test that calls it does not carry the contract of `run` through its proof.
+pub fn ran(alloc: Global, words: &[&str], limits: &Limits, outside: &mut MemOutside) -> Status {
+    if limits.is_valid() {
+        run(alloc, words, limits, outside)
+    } else {
+        Status::Usage
+    }
+}
+
 /// What a run tells, and how it ends, where no call fails.
 pub fn answered(
     alloc: Global,
@@ -25,11 +35,7 @@ pub fn answered(
 ) -> Result<(Vec<u8>, Status), Fail> {
     let piece = piece.max(1);
     let mut outside = MemOutside::new(alloc, input, b"", piece, &[], None, 1 << 20)?;
-    let ends = if limits.is_valid() {
-        run(alloc, words, limits, &mut outside)
-    } else {
-        Status::Usage
-    };
+    let ends = ran(alloc, words, limits, &mut outside);
     Ok((outside.told().to_vec(alloc)?, ends))
 }
 

@@ -1,9 +1,9 @@
 //! The worked rows of the command `explain`: what is told of each map that is not tiled, and that the file stays as it is.
 
 use crate::load::{EMPTY, KEPT};
-use bgt_cli::{Status, run};
+use bgt_cli::Status;
 use bgt_rows::messages::{BENT, DOUBLED, FIRST, GAP, HALVES, OPEN};
-use bgt_rows::runs::joined;
+use bgt_rows::runs::{joined, ran};
 use message_text::Limits;
 use outside::MemOutside;
 use std::alloc::Global;
@@ -50,7 +50,7 @@ pub(crate) fn explained(
     let stream = joined(alloc, texts)?;
     let piece = piece.max(1);
     let mut outside = MemOutside::new(alloc, stream.as_bytes(), disk, piece, &[], None, 1 << 20)?;
-    let ends = run(alloc, &["explain", "F"], &Limits::standard(), &mut outside);
+    let ends = ran(alloc, &["explain", "F"], &Limits::standard(), &mut outside);
     Ok((
         outside.told().to_vec(alloc)?,
         outside.disk().to_vec(alloc)?,

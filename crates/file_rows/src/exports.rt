@@ -2,9 +2,9 @@
 
 use crate::neighbourhood::{AREA, BUILD, NORTH, SHED, SOUTH, YARD, YARD_WITH_SHED};
 use crate::queries::{LEFT_ALONE, STRAIGHT, asked, kept};
-use bgt_cli::{Status, run};
+use bgt_cli::Status;
 use bgt_rows::messages::{BENT, FIRST, HALVES, OTHER};
-use bgt_rows::runs::joined;
+use bgt_rows::runs::{joined, ran};
 use message_text::Limits;
 use outside::MemOutside;
 use std::alloc::Global;
@@ -48,7 +48,7 @@ const AFTER: &[&str] = &[
 // What `load` tells of the input over an empty file, and the file then.
 fn loaded(alloc: Global, input: &str) -> Result<(Vec<u8>, Vec<u8>), Fail> {
     let mut outside = MemOutside::new(alloc, input.as_bytes(), b"", 1 << 12, &[], None, 1 << 14)?;
-    run(alloc, &["load", "F"], &Limits::standard(), &mut outside);
+    ran(alloc, &["load", "F"], &Limits::standard(), &mut outside);
     Ok((outside.told().to_vec(alloc)?, outside.disk().to_vec(alloc)?))
 }
 

@@ -1,6 +1,7 @@
 //! The worked rows of the command `load`, and a failing call at each place of one.
 
-use bgt_cli::{Status, run};
+use bgt_cli::Status;
+use bgt_rows::runs::ran;
 use message_text::Limits;
 use outside::MemOutside;
 use std::alloc::Global;
@@ -27,11 +28,7 @@ pub fn loaded(
     failing: &[u64],
 ) -> Result<(Vec<u8>, Vec<u8>, Status), Fail> {
     let mut outside = MemOutside::new(alloc, input, disk, 100, failing, None, 1 << 12)?;
-    let ends = if limits.is_valid() {
-        run(alloc, &["load", "F"], limits, &mut outside)
-    } else {
-        Status::Usage
-    };
+    let ends = ran(alloc, &["load", "F"], limits, &mut outside);
     Ok((
         outside.told().to_vec(alloc)?,
         outside.disk().to_vec(alloc)?,
@@ -127,7 +124,7 @@ fn each_call_fails(rt: HostRuntime) -> Result<(), Fail> {
     for (place, (told, ends)) in CALLS.iter().enumerate() {
         let call = place as u64 + 1;
         let mut outside = MemOutside::new(rt.alloc(), NEXT, KEPT, 100, &[call], None, 1 << 12)?;
-        let status = run(rt.alloc(), &["load", "F"], &limits, &mut outside);
+        let status = ran(rt.alloc(), &["load", "F"], &limits, &mut outside);
         assert_eq!(rt; status, *ends, "call {call}");
         assert_eq!(rt; outside.told(), *told, "call {call}");
         for image in [outside.disk(), outside.synced()] {

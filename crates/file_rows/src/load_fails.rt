@@ -1,9 +1,9 @@
 //! Loads in which one call fails, or none is answered after one: what each tells, how it ends, and what the next `load` finds in
 //! the file as it reads, as it was synced last, and with each byte that was written since then changed.
 
-use bgt_cli::{Status, run};
+use bgt_cli::Status;
 use bgt_rows::messages::{BENT, HALVES};
-use bgt_rows::runs::joined;
+use bgt_rows::runs::{joined, ran};
 use message_text::Limits;
 use outside::{Call, MemOutside};
 use std::alloc::{AllocError, Global};
@@ -90,7 +90,7 @@ fn file_of(alloc: Global, messages: &[&str]) -> Result<Vec<u8>, AllocError> {
 fn found(alloc: Global, case: &Case, file: &[u8]) -> Result<Option<usize>, Fail> {
     let input = joined(alloc, case.messages)?;
     let mut outside = MemOutside::new(alloc, input.as_bytes(), file, 1 << 12, &[], None, ROOM)?;
-    run(alloc, &["load", "F"], &Limits::standard(), &mut outside);
+    ran(alloc, &["load", "F"], &Limits::standard(), &mut outside);
     let whole = file_of(alloc, case.messages)?;
     if outside.disk() != whole.as_slice() {
         return Ok(None);
@@ -118,7 +118,7 @@ fn tried(
     let piece = piece.max(1);
     let input = joined(alloc, case.messages)?;
     let mut outside = MemOutside::new(alloc, input.as_bytes(), b"", piece, failing, stop, ROOM)?;
-    let status = run(alloc, &["load", "F"], &Limits::standard(), &mut outside);
+    let status = ran(alloc, &["load", "F"], &Limits::standard(), &mut outside);
     let torn = torn(alloc, &outside)?;
     Ok(Ended {
         told: outside.told().to_vec(alloc)?,

@@ -1,8 +1,8 @@
 //! The worked rows of the queries: what `state`, `history` and `point` tell of a file, and how they end.
 
-use bgt_cli::{Status, run};
+use bgt_cli::Status;
 use bgt_rows::messages::{BENT, BESIDE, CORNER, FIRST, HALVES, OTHER, PINCHED};
-use bgt_rows::runs::joined;
+use bgt_rows::runs::{joined, ran};
 use message_text::Limits;
 use outside::MemOutside;
 use std::alloc::Global;
@@ -75,7 +75,7 @@ const M1: &str = "2024-01-01T00:00:01";
 pub fn kept(alloc: Global, texts: &[&str]) -> Result<Vec<u8>, Fail> {
     let stream = joined(alloc, texts)?;
     let mut outside = MemOutside::new(alloc, stream.as_bytes(), b"", 1 << 12, &[], None, 1 << 14)?;
-    run(alloc, &["load", "F"], &Limits::standard(), &mut outside);
+    ran(alloc, &["load", "F"], &Limits::standard(), &mut outside);
     Ok(outside.disk().to_vec(alloc)?)
 }
 
@@ -89,7 +89,7 @@ pub fn asked(
 ) -> Result<(Vec<u8>, Status), Fail> {
     let piece = piece.max(1);
     let mut outside = MemOutside::new(alloc, b"x", file, piece, failing, None, 1 << 14)?;
-    let ends = run(alloc, words, &Limits::standard(), &mut outside);
+    let ends = ran(alloc, words, &Limits::standard(), &mut outside);
     Ok((outside.told().to_vec(alloc)?, ends))
 }
 

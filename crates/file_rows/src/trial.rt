@@ -1,6 +1,7 @@
 //! The worked rows of `trial`: what it tells, that it touches neither input nor file, and which words ask for no test map.
 
-use bgt_cli::{Status, run};
+use bgt_cli::Status;
+use bgt_rows::runs::ran;
 use message_text::Limits;
 use outside::{Call, MemOutside};
 use std::alloc::Global;
@@ -14,11 +15,7 @@ fn tried(
     failing: &[u64],
 ) -> Result<(Vec<u8>, Status, bool), Fail> {
     let mut outside = MemOutside::new(alloc, b"x", b"hello, world", 30, failing, None, 1 << 12)?;
-    let ends = if limits.is_valid() {
-        run(alloc, words, limits, &mut outside)
-    } else {
-        Status::Usage
-    };
+    let ends = ran(alloc, words, limits, &mut outside);
     let only_told = outside.entries().iter().all(|call| matches!(
         call,
         Call::Gave { .. } | Call::GiveFailed
