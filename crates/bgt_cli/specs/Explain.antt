@@ -44,7 +44,8 @@ point_line at parts inside = codes "POINT " ++ (signed_decimal at.x_num ++ 47 �
 
 -- the line of what is wrong with a map
 abbrev pub IsFaultLine : Fault → List ℕ → Type 0
-IsFaultLine (fault.Crossing first second) line = (a : List ℕ) × (b : List ℕ) × IsEdgeText a first × IsEdgeText b second × (line ≡ codes "CROSS " ++ (a ++ 32 ∷ (b ++ 10 ∷ [])))
+IsFaultLine (fault.Crossing first second) line = (a : List ℕ) × (b : List ℕ) × IsEdgeText a first × IsEdgeText b second ×
+    (line ≡ codes "CROSS " ++ (a ++ 32 ∷ (b ++ 10 ∷ [])))
 IsFaultLine (fault.Point at parts inside) line = line ≡ point_line at parts inside
 
 -- the line says why the map that the message would leave its holder is not tiled

@@ -219,7 +219,8 @@ one_point area parts f g m n b c h k =
     same : f ≡ g
     same
         = one_fraction f g y
-        (one_middle g.y_half h.first.from h.first.to k.first.from k.first.to f g (same_from area parts g.y_half h.first.from h.first.to k.first.from k.first.to first second)
+        (one_middle g.y_half h.first.from h.first.to k.first.from k.first.to f g
+        (same_from area parts g.y_half h.first.from h.first.to k.first.from k.first.to first second)
         (same_to area parts g.y_half h.first.from h.first.to k.first.from k.first.to first second)
         (subst (λ y. IsHalfWay y h.first.from h.first.to f) y h.first.middle) k.first.middle) h.lowest k.lowest
 

@@ -74,7 +74,8 @@ by_words i xs ys le le' p q =
     (λ j. nat_cmp (spells _ l j) (spells _ m j)) ∙ by_spelling 0 0 _ _ (l ∙ sym m) (eight_bytes i xs p) (eight_bytes i ys q)
 
 -- the first n decide, and those behind them where these are alike
-in_parts : (n : ℕ) (xs ys : List ℕ) → slice_cmp nat_cmp xs ys ≡ ordering_then (slice_cmp nat_cmp (take n xs) (take n ys)) (slice_cmp nat_cmp (drop n xs) (drop n ys))
+in_parts : (n : ℕ) (xs ys : List ℕ) → slice_cmp nat_cmp xs ys ≡ ordering_then (slice_cmp nat_cmp (take n xs) (take n ys))
+    (slice_cmp nat_cmp (drop n xs) (drop n ys))
 in_parts zero xs ys = refl
 in_parts (suc n) [] [] = refl
 in_parts (suc n) [] (y ∷ ys) = refl
@@ -118,12 +119,14 @@ pub more_alike : (i : ℕ) (xs ys : List ℕ) (differ : Bool) → AreAlike i xs 
 more_alike i xs ys differ h e f =
     let le : i ≤ i + 8 = omega arith in
     in_parts i (take (i + 8) xs) (take (i + 8) ys)
-    ∙ (λ k. ordering_then (slice_cmp nat_cmp (take-take i (i + 8) xs le k) (take-take i (i + 8) ys le k)) (slice_cmp nat_cmp (drop-take i 8 xs k) (drop-take i 8 ys k)))
+    ∙ (λ k. ordering_then (slice_cmp nat_cmp (take-take i (i + 8) xs le k) (take-take i (i + 8) ys le k))
+    (slice_cmp nat_cmp (drop-take i 8 xs k) (drop-take i 8 ys k)))
     ∙ ap (λ a. ordering_then a (eight_cmp i xs ys)) h
     ∙ level (eight_cmp i xs ys) (sym e ∙ f)
 
 -- where they differ, they decide
-pub decides : (i : ℕ) (xs ys : List ℕ) (differ : Bool) → AreAlike i xs ys → differ ≡ is_ne (eight_cmp i xs ys) → differ ≡ true → eight_cmp i xs ys ≡ slice_cmp nat_cmp xs ys
+pub decides : (i : ℕ) (xs ys : List ℕ) (differ : Bool) → AreAlike i xs ys → differ ≡ is_ne (eight_cmp i xs ys) → differ ≡ true →
+    eight_cmp i xs ys ≡ slice_cmp nat_cmp xs ys
 decides i xs ys differ h e f =
     first_decides (eight_cmp i xs ys) (slice_cmp nat_cmp (drop 8 (drop i xs)) (drop 8 (drop i ys))) (sym e ∙ f)
     ∙ sym (in_parts 8 (drop i xs) (drop i ys))

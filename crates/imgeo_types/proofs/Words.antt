@@ -11,7 +11,8 @@ use Rattle.imgeo_types.specs.Kinds.{word_of}
 -- the kinds in their order
 abbrev pub kinds : List Kind
 kinds
-    = Wegdeel ∷ OndersteunendWegdeel ∷ BegroeidTerreindeel ∷ OnbegroeidTerreindeel ∷ Waterdeel ∷ OndersteunendWaterdeel ∷ Pand ∷ OverigBouwwerk ∷ Kunstwerkdeel ∷ Scheiding ∷ OngeclassificeerdObject ∷ Overbruggingsdeel ∷ Tunneldeel ∷ []
+    = Wegdeel ∷ OndersteunendWegdeel ∷ BegroeidTerreindeel ∷ OnbegroeidTerreindeel ∷ Waterdeel ∷ OndersteunendWaterdeel ∷ Pand ∷
+    OverigBouwwerk ∷ Kunstwerkdeel ∷ Scheiding ∷ OngeclassificeerdObject ∷ Overbruggingsdeel ∷ Tunneldeel ∷ []
 
 -- the list has each kind
 pub listed : (k : Kind) → Contains kinds k

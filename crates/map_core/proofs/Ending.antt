@@ -163,7 +163,8 @@ ident f h =
     (behind (take 5 f) (get_or f 5 0 ∷ drop 6 f) (holder _ h.holder) (mark _ _ (omega (arith, stop)) (letters _ h.behind)))
 
 area : (n : AreaNote) → IsOwned (refusal.Area n) → All IsInLine (area_words n)
-area (area_note.Shape at n) o = and_word (numbered (codes "shape ") at) (shape_words n) (words_number (codes "shape ") at (literal (codes "shape ") refl)) (shape n)
+area (area_note.Shape at n) o = and_word (numbered (codes "shape ") at) (shape_words n)
+    (words_number (codes "shape ") at (literal (codes "shape ") refl)) (shape n)
 area (area_note.Own a b) o = words_pair (codes "own ") a b (literal (codes "own ") refl)
 area (area_note.Meets h) o = behind (codes "meets ") h (literal (codes "meets ") refl) (holder h o)
 
@@ -179,15 +180,27 @@ refused (refusal.Stale kept) text o h = with_moment (codes "E5 STALE ") text kep
 refused (refusal.Twice at) text o h = is_text text _ h (words_number (codes "E6 TWICE ") at (literal (codes "E6 TWICE ") refl))
 refused (refusal.Prefix at) text o h = is_text text _ h (words_number (codes "E7 PREFIX ") at (literal (codes "E7 PREFIX ") refl))
 refused (refusal.Known at) text o h = is_text text _ h (words_number (codes "E8 KNOWN ") at (literal (codes "E8 KNOWN ") refl))
-refused (refusal.Unknown at None) text o h = is_text text _ h (behind (numbered (codes "E9 UNKNOWN ") at) (codes " -") (words_number (codes "E9 UNKNOWN ") at (literal (codes "E9 UNKNOWN ") refl)) (literal (codes " -") refl))
+refused (refusal.Unknown at None) text o h = is_text text _ h
+    (behind (numbered (codes "E9 UNKNOWN ") at) (codes " -")
+    (words_number (codes "E9 UNKNOWN ") at (literal (codes "E9 UNKNOWN ") refl)) (literal (codes " -") refl))
 refused (refusal.Unknown at (Some ended)) text o h =
-    with_moment (numbered (codes "E9 UNKNOWN ") at ++ 32 ∷ []) text ended (and_word (numbered (codes "E9 UNKNOWN ") at) [] (words_number (codes "E9 UNKNOWN ") at (literal (codes "E9 UNKNOWN ") refl)) nothing) h
-refused (refusal.Owner at h) text o e = is_text text _ e (and_word (numbered (codes "E10 OWNER ") at) h (words_number (codes "E10 OWNER ") at (literal (codes "E10 OWNER ") refl)) (holder h o))
-refused (refusal.Was at kept) text o h = with_moment (numbered (codes "E11 WAS ") at ++ 32 ∷ []) text kept (and_word (numbered (codes "E11 WAS ") at) [] (words_number (codes "E11 WAS ") at (literal (codes "E11 WAS ") refl)) nothing) h
-refused (refusal.Kind at kind) text o h = is_text text _ h (and_word (numbered (codes "E12 KIND ") at) _ (words_number (codes "E12 KIND ") at (literal (codes "E12 KIND ") refl)) (field _ (solid_word kind)))
-refused (refusal.Item at f) text o h = is_text text _ h (and_word (numbered (codes "E13 ITEM ") at) (item_word f) (words_number (codes "E13 ITEM ") at (literal (codes "E13 ITEM ") refl)) (item f))
+    with_moment (numbered (codes "E9 UNKNOWN ") at ++ 32 ∷ []) text ended
+    (and_word (numbered (codes "E9 UNKNOWN ") at) [] (words_number (codes "E9 UNKNOWN ") at (literal (codes "E9 UNKNOWN ") refl))
+    nothing) h
+refused (refusal.Owner at h) text o e = is_text text _ e
+    (and_word (numbered (codes "E10 OWNER ") at) h (words_number (codes "E10 OWNER ") at (literal (codes "E10 OWNER ") refl)) (holder h o))
+refused (refusal.Was at kept) text o h = with_moment (numbered (codes "E11 WAS ") at ++ 32 ∷ []) text kept
+    (and_word (numbered (codes "E11 WAS ") at) [] (words_number (codes "E11 WAS ") at (literal (codes "E11 WAS ") refl)) nothing) h
+refused (refusal.Kind at kind) text o h = is_text text _ h
+    (and_word (numbered (codes "E12 KIND ") at) _ (words_number (codes "E12 KIND ") at (literal (codes "E12 KIND ") refl))
+    (field _ (solid_word kind)))
+refused (refusal.Item at f) text o h = is_text text _ h
+    (and_word (numbered (codes "E13 ITEM ") at) (item_word f) (words_number (codes "E13 ITEM ") at (literal (codes "E13 ITEM ") refl))
+    (item f))
 refused (refusal.Days at) text o h = is_text text _ h (words_number (codes "E14 DAYS ") at (literal (codes "E14 DAYS ") refl))
-refused (refusal.Shape at what) text o h = is_text text _ h (and_word (numbered (codes "E15 SHAPE ") at) (shape_words what) (words_number (codes "E15 SHAPE ") at (literal (codes "E15 SHAPE ") refl)) (shape what))
+refused (refusal.Shape at what) text o h = is_text text _ h
+    (and_word (numbered (codes "E15 SHAPE ") at) (shape_words what)
+    (words_number (codes "E15 SHAPE ") at (literal (codes "E15 SHAPE ") refl)) (shape what))
 refused (refusal.Full which) text o h = is_text text _ h (behind (codes "E16 FULL ") (full_word which) (literal (codes "E16 FULL ") refl) (fulls which))
 refused (refusal.Area what) text o h = is_text text _ h (behind (codes "E17 AREA ") (area_words what) (literal (codes "E17 AREA ") refl) (area what o))
 refused (refusal.Levels a b) text o h = is_text text _ h (behind (codes "E18 LEVELS ") (a ++ 32 ∷ b) (literal (codes "E18 LEVELS ") refl)

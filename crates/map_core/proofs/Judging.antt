@@ -181,7 +181,8 @@ pub as_tryable : (s : State) (m : Message) (now : HolderParts) (change : Change)
 as_tryable s m now change e f t =
     subst (λ (x : HolderParts). IsRightChange x change × IsSoundArea (changed change x).area
     × All IsSoundShape (ground_of (changed change x).parts)) (sym e)
-    (subst (λ (c : Change). IsRightChange (map_now m.holder s) c × IsSoundArea (changed c (map_now m.holder s)).area × All IsSoundShape (ground_of (changed c (map_now m.holder s)).parts)) (sym f)
+    (subst (λ (c : Change). IsRightChange (map_now m.holder s) c × IsSoundArea (changed c (map_now m.holder s)).area × All
+    IsSoundShape (ground_of (changed c (map_now m.holder s)).parts)) (sym f)
     (t.change, t.area, t.sound))
 
 pub changed_is : (s : State) (m : Message) (now : HolderParts) (change : Change) → now ≡ map_now m.holder s

@@ -56,7 +56,8 @@ module _ (h : List ℕ) (moment : ℤ) where
       → ((a : AreaVersion) → Contains areas a → is_area_at t g (area_ended h moment a) ≡ is_area_at t g a)
       → is_area_at t g (new_area h moment shapes) ≡ false → area_at t g (areas_with h moment shapes areas) ≡ area_at t g areas
   unchanged t g shapes areas old new = ap (λ (o : Option Shapes). unwrap_or o [])
-      (found-mapped (λ (a : AreaVersion). a.shapes) (is_area_at t g) (area_ended h moment) areas (new_area h moment shapes ∷ []) old (λ a c. same_shapes h moment a)
+      (found-mapped (λ (a : AreaVersion). a.shapes) (is_area_at t g) (area_ended h moment) areas (new_area h moment shapes ∷ []) old
+      (λ a c. same_shapes h moment a)
       (λ a c. elim (contains_cases (new_area h moment shapes) a [] c)
       [ inl q ↦ ap (is_area_at t g) (sym q) ∙ new | inr d ↦ absurd (omega (arith, d.1)) ]))
 

@@ -206,7 +206,8 @@ module _ (s : State) (m : Message) (g : Good s) (k : IsTaken s m) where
       let late : IfSome (moment_of m.holder (after s m).last) (λ u. u ≤ℤ t)
       = subst (λ (o : Option ℤ). IfSome o (λ u. u ≤ℤ t)) (sym (moment_after m.holder m.moment s.last)) l in
       subst IsRightMap
-      (sym (same_map (area_at t m.holder (after s m).areas) (area_of m.holder (after s m).areas) (parts_at t m.holder (after s m).versions) (parts_now m.holder (after s m).versions)
+      (sym (same_map (area_at t m.holder (after s m).areas) (area_of m.holder (after s m).areas)
+      (parts_at t m.holder (after s m).versions) (parts_now m.holder (after s m).versions)
       (area_is_now (after s m).last m.holder t late (after s m).areas areas_dated_after)
       (parts_are_now (after s m).last m.holder t late (after s m).versions dated_after))) k.right
 

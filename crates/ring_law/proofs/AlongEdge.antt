@@ -120,7 +120,8 @@ clear : (e f : Segment) (p s : Point) → Heading f → Weighed p e → Weighed 
     → ((x : Point) → pos 0 <ℤ side (point_of f.a) e ⊎ pos 0 <ℤ side (point_of f.b) e → On x f → Inner x e → ⊥) → Pair p s (Clears e f)
 clear e f p s d mp ms zp zs free = by_lt_z (pos 0) (side (point_of f.a) e)
     (λ a. by_lt_z (pos 0) (side (point_of f.b) e)
-    (λ b. pair_so p s (pair_of p s (stays (close_form e) p (omega (arith, linear, close_is p e, p.positive))) (stays (close_form e) s (omega (arith, linear, close_is s e, s.positive))))
+    (λ b. pair_so p s (pair_of p s (stays (close_form e) p (omega (arith, linear, close_is p e, p.positive)))
+    (stays (close_form e) s (omega (arith, linear, close_is s e, s.positive))))
     (λ r t h _ _ x w on_f. omega (arith, linear, far_left x e f d a b on_f, close_is x e, positive_along (close_form e) r t x w h.0 h.1)))
     (λ b. clear_of e f p s (one_side_of e f p s mp ms (λ x. free x (inl a)) a b)))
     (λ a. by_lt_z (pos 0) (side (point_of f.b) e)
@@ -142,7 +143,8 @@ clear_all : (es : List Segment) → AreRingEdges es → (e : Segment) → Contai
 clear_all es k e ce p s ip is [] c = pair_always p s (λ r t _ _. tt)
 clear_all es k e ce p s ip is (f ∷ fs) c
     = pair_so p s
-    (pair_both p s (clear e f p s (heading f (k.differ f cf)) (weighed p e d ip) (weighed s e d is) ((On-from_on p e ip.on_edge).straight) ((On-from_on s e is.on_edge).straight) free)
+    (pair_both p s (clear e f p s (heading f (k.differ f cf)) (weighed p e d ip) (weighed s e d is)
+    ((On-from_on p e ip.on_edge).straight) ((On-from_on s e is.on_edge).straight) free)
     (clear_all es k e ce p s ip is fs (λ g h. c g (contains_tail f g fs h)))) (λ r t h a b. (h.0 a b, h.1 a b))
   where
     cf : Contains es f

@@ -109,7 +109,15 @@ pub goes_on : (es : List Segment) → AreRingEdges es → (u v w : Vertex) → C
     → Contains es (record { a = v; b = w }) → side (point_of w) (record { a = u; b = v }) ≡ pos 0
     → pos 0 <ℤ run_to (record { a = u; b = v }) w
 goes_on es k u v w ce cf s = by_lt_z (pos 0) (run_to e w) (λ h. h) (λ h. by_lt_z (length_of e +ℤ run_to e w) (pos 0)
-    (λ l. let on_f = on_back (record { a = w; b = v }) u (λ q. k.differ f cf (sym q)) (side_back u v w s) (omega (arith, linear, run_back u v w)) (omega (arith, linear, run_back u v w, turned, shorter (length_of e) (length_of f) (run_to e w) (long e (heading e (k.differ e ce))) product l)) in
+    (λ l. let on_f = on_back (record { a = w; b = v }) u (λ q. k.differ f cf (sym q)) (side_back u v w s)
+    (omega (arith, linear, run_back u v w)) (omega (
+      arith,
+      linear,
+      run_back u v w,
+      turned,
+      shorter (length_of e) (length_of f)
+          (run_to e w) (long e (heading e (k.differ e ce))) product l,
+    )) in
     absurd (k.differ e ce (at_corner u v (k.shared e f (point_of u) ce cf refl (end_a_on e)
     (on_from_On (point_of u) f (On-reversed (point_of u) (record { a = w; b = v }) on_f))))))
     (λ l. absurd (k.differ f cf (sym (at_corner w v

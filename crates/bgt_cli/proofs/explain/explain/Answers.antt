@@ -172,7 +172,8 @@ returns-clause-tried g c =
     meets c.one_list.ensures c.args.limits.now c.in-Ok.store.state c.explain_input.result (g.O.Outside.shown c.args.outside.now)
     (g.O.Outside.shown c.start.new.outside) (g.O.Outside.shown c.explain_input.new.outside)
     same c.in-Ok.ensures.state
-    (λ input i. subst (λ (s : State). IsTried c.args.limits.now s input c.explain_input.result (g.O.Outside.shown c.start.new.outside) (g.O.Outside.shown c.explain_input.new.outside))
+    (λ input i. subst (λ (s : State). IsTried c.args.limits.now s input c.explain_input.result (g.O.Outside.shown c.start.new.outside)
+    (g.O.Outside.shown c.explain_input.new.outside))
     (ap (λ (v : CoreView). v.state) c.into_core-core.ensures.core) (c.explain_input.ensures.tried input i))
 
 pub returns-clause-no_list : goal.returns-clause-no_list

@@ -156,7 +156,8 @@ returns-clause-tried g c =
     = c.final_status.ensures ∙ ap (status_at_end s.all_taken) c.rest-rest.ensures in
     λ input e.
     subst (λ (x : Status). IsTried c.args.limits.now start input x first (g.O.Outside.shown c.tell.new.outside)) (sym status)
-    (at_end c.args.limits.now start first s c.explain_pieces.new.core.state (g.O.Outside.shown c.explain_pieces.new.outside) (c.in_default-explain_pieces.ensures.whole start first u)
+    (at_end c.args.limits.now start first s c.explain_pieces.new.core.state (g.O.Outside.shown c.explain_pieces.new.outside)
+    (c.in_default-explain_pieces.ensures.whole start first u)
     (g.O.Outside.shown c.tell.new.outside) c.as_bytes.result.now line c.in-Ok-tell.ensures.ok input e)
 
 pub returns-clause-taken : goal.returns-clause-taken

@@ -50,7 +50,8 @@ returns-in-Err-explain_texts-clause-ended g c = λ start first u.
     let within : n ≤ c.loop-left.left
     = omega (arith, length-take c.min-most.result c.loop-left.piece, c.min-most.ensures, c.in-Ok.ensures.bound) in
     c.in-Err-explain_texts.ensures.ended start first _
-    (fed c.args.limits.now start first c.loop-left.left c.loop-left.session c.loop-left.core.state (g.O.Outside.shown c.loop-left.outside) (c.loop-left.invariant.under_way start first u) c.loop-left.invariant.none
+    (fed c.args.limits.now start first c.loop-left.left c.loop-left.session c.loop-left.core.state
+    (g.O.Outside.shown c.loop-left.outside) (c.loop-left.invariant.under_way start first u) c.loop-left.invariant.none
     n c.take_piece.new.session (g.O.Outside.shown c.take_piece.new.outside) within c.in-Ok.ensures.fed)
 
 pub loop-left-preserved : goal.loop-left-preserved
@@ -77,7 +78,8 @@ loop-left-preserved g c =
       );
       none = done.none;
       under_way = λ start first u. done.under_way start first _
-          (fed c.args.limits.now start first c.loop-left.left c.loop-left.session c.loop-left.core.state (g.O.Outside.shown c.loop-left.outside) (was.under_way start first u) was.none n c.take_piece.new.session
+          (fed c.args.limits.now start first c.loop-left.left c.loop-left.session c.loop-left.core.state
+          (g.O.Outside.shown c.loop-left.outside) (was.under_way start first u) was.none n c.take_piece.new.session
           (g.O.Outside.shown c.take_piece.new.outside) within piece);
       quiet
           = quiet_on g.O.Outside.leaves g.O.Outside.clock g.O.Outside.left c.args.outside.now c.take_piece.new.outside

@@ -28,7 +28,8 @@ pub returns-in-Err-clause-nothing_new : goal.returns-in-Err-clause-nothing_new
 returns-in-Err-clause-nothing_new g c =
     quiet_on g.O.Outside.leaves g.O.Outside.clock g.O.Outside.left c.args.outside.now c.loop-left.outside c.take_more.new.outside
     c.loop-left.invariant.quiet
-    (while_reading g.O.Outside.leaves g.O.Outside.clock g.O.Outside.left (g.O.Outside.shown c.loop-left.outside).told c.loop-left.outside c.take_more.new.outside
+    (while_reading g.O.Outside.leaves g.O.Outside.clock g.O.Outside.left (g.O.Outside.shown c.loop-left.outside).told
+    c.loop-left.outside c.take_more.new.outside
     c.in-Err.ensures.images c.in-Err.ensures.moments)
 
 pub returns-then-n-eq0-clause-whole : goal.returns-then-n-eq0-clause-whole
@@ -47,7 +48,8 @@ pub returns-then-n-eq0-clause-nothing_new : goal.returns-then-n-eq0-clause-nothi
 returns-then-n-eq0-clause-nothing_new g c =
     quiet_on g.O.Outside.leaves g.O.Outside.clock g.O.Outside.left c.args.outside.now c.loop-left.outside c.take_more.new.outside
     c.loop-left.invariant.quiet
-    (while_reading g.O.Outside.leaves g.O.Outside.clock g.O.Outside.left (g.O.Outside.shown c.loop-left.outside).told c.loop-left.outside c.take_more.new.outside
+    (while_reading g.O.Outside.leaves g.O.Outside.clock g.O.Outside.left (g.O.Outside.shown c.loop-left.outside).told
+    c.loop-left.outside c.take_more.new.outside
     c.in-Ok.ensures.images c.in-Ok.ensures.moments)
 
 pub loop-left-preserved : goal.loop-left-preserved
@@ -66,7 +68,8 @@ loop-left-preserved g c =
       quiet
           = quiet_on g.O.Outside.leaves g.O.Outside.clock g.O.Outside.left c.args.outside.now c.loop-left.outside c.take_more.new.outside
           i.quiet
-          (while_reading g.O.Outside.leaves g.O.Outside.clock g.O.Outside.left (g.O.Outside.shown c.loop-left.outside).told c.loop-left.outside c.take_more.new.outside
+          (while_reading g.O.Outside.leaves g.O.Outside.clock g.O.Outside.left (g.O.Outside.shown c.loop-left.outside).told
+          c.loop-left.outside c.take_more.new.outside
           c.in-Ok.ensures.images c.in-Ok.ensures.moments);
       counts = record {
         reads = omega (arith, c.in-Ok.ensures.counts.reads);

@@ -24,7 +24,8 @@ loop-place-preserved c = record {
 pub returns-clause-here : goal.returns-clause-here
 returns-clause-here c = λ row slot own s n g m. sought_all (λ (p : Filed). p.slot) c.args.bounds.now _ c.loop-place.place-iterator _
     (rest_all deref_pair _ _ _ c.in-None.is c.next.ensures.steps) c.loop-place.invariant.sought (filed c.args.column row slot) own
-    (subst (λ (es : List (Filed × Box)). Contains es (filed c.args.column row slot, own)) (sym (c.into_iter-place-iterator.ensures.into_iter_gives ∙ c.range-place-items.ensures.between tt))
+    (subst (λ (es : List (Filed × Box)). Contains es (filed c.args.column row slot, own))
+    (sym (c.into_iter-place-iterator.ensures.into_iter_gives ∙ c.range-place-items.ensures.between tt))
     (kept_entry _ _ (filed c.args.column row slot, own) (filed_entry _ _ own g) (in_range c.args.column _ _ row slot s n))) m
 
 pub returns-clause-kept : goal.returns-clause-kept

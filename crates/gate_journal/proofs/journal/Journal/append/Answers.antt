@@ -55,7 +55,8 @@ returns-clause-appended g c = λ ps s.
     subst (λ (n : ℕ). IsSettled (g.O.Outside.shown c.write_and_sync-2.new.outside).disk (g.O.Outside.leaves c.write_and_sync-2.new.outside)
     n (ps ++ c.args.frame.now ∷ [])) {x = c.self.inside.gate + 9 + length c.args.frame.now} {y = c.self.inside.gate + c.len.result}
     (omega (arith, c.len.ensures))
-    (appended g.O.Outside.shown g.O.Outside.leaves g.O.Outside.clock g.O.Outside.left c.args.outside.now c.write_and_sync.new.outside c.write_and_sync-2.new.outside c.self.inside.gate c.args.frame.now c.bytes.result.now c.bytes.ensures.size c.bytes.ensures.bytes
+    (appended g.O.Outside.shown g.O.Outside.leaves g.O.Outside.clock g.O.Outside.left c.args.outside.now c.write_and_sync.new.outside
+    c.write_and_sync-2.new.outside c.self.inside.gate c.args.frame.now c.bytes.result.now c.bytes.ensures.size c.bytes.ensures.bytes
     c.in-Ok.ensures.written c.in-Ok.ensures.durable c.in-Ok-write_and_sync.ensures.written c.in-Ok-write_and_sync.ensures.durable ps here)
 
 pub returns-clause-ready : goal.returns-clause-ready
@@ -66,7 +67,8 @@ returns-clause-ready g c =
     subst (λ (n : ℕ). IsSettledIfTold (g.O.Outside.shown c.write_and_sync-2.new.outside).disk
     (g.O.Outside.leaves c.write_and_sync-2.new.outside) n) {x = c.self.inside.gate + 9 + length c.args.frame.now}
     {y = c.self.inside.gate + c.len.result} (omega (arith, c.len.ensures))
-    (ready g.O.Outside.shown g.O.Outside.leaves g.O.Outside.clock g.O.Outside.left c.args.outside.now c.write_and_sync.new.outside c.write_and_sync-2.new.outside c.self.inside.gate c.args.frame.now c.bytes.result.now c.bytes.ensures.size c.bytes.ensures.bytes
+    (ready g.O.Outside.shown g.O.Outside.leaves g.O.Outside.clock g.O.Outside.left c.args.outside.now c.write_and_sync.new.outside
+    c.write_and_sync-2.new.outside c.self.inside.gate c.args.frame.now c.bytes.result.now c.bytes.ensures.size c.bytes.ensures.bytes
     c.in-Ok.ensures.written c.in-Ok.ensures.durable c.in-Ok-write_and_sync.ensures.written c.in-Ok-write_and_sync.ensures.durable here)
 
 pub returns-clause-untold : goal.returns-clause-untold
