@@ -2,9 +2,10 @@
 """bench/goals.py [--large] [NAME ..]: what the built program costs, beside the goals that are set for it.
 
 Instructions are counted by `valgrind --tool=callgrind`, seconds and memory are those of one plain run. A small message changes one to
-four cells of the test map of `trial`; what it costs is what 94 of them cost, behind the first map and six others, over 94. With
---large also what is asked of 160,000 cells, which takes some ten minutes. NAME leaves out all measures but those whose name begins
-so. BGT names another program. It is no part of the gate: build the program first with ./bgt.
+four cells of the test map of `trial`; what it costs is what 94 of them cost, behind the first map and six others, over 94, counted from
+where each is read to where the next one is. With --large also what is asked of 160,000 cells, which takes some ten minutes. NAME leaves
+out all measures but those whose name begins so. BGT names another program. It is no part of the gate: build the program first with
+./bgt.
 """
 import os
 import re
@@ -112,12 +113,21 @@ def diagonal(teeth):
     return "\n".join(lines + ["EINDE", ""]).encode()
 
 
+def text_costs(text):
+    """How many instructions `check` takes on each text, from where it is read to where the next one is; the first figure is what
+    comes before the first text, and the last one has the end of the program in it."""
+    with tempfile.TemporaryDirectory() as folder:
+        subprocess.run(["valgrind", "--tool=callgrind", "--dump-before=message_text::read::read_message",
+                        f"--callgrind-out-file={folder}/out", BGT, "check"], input=text, capture_output=True)
+        parts = sorted(os.listdir(folder), key=lambda part: int(part.partition(".")[2] or 10**9))
+        return [int(re.search(r"^(?:summary|totals): (\d+)", open(os.path.join(folder, part)).read(), re.M)[1]) for part in parts]
+
+
 def small_message(n):
-    """Instructions of a small message behind a map of n × n cells, and of the refused one after them all."""
+    """Instructions of a small message behind a map of n × n cells and six others, and of the refused one after them all."""
     texts = [print_message(m).encode() for m in made(n)]
-    few, many = instructions(b"".join(texts[:7]), "check"), instructions(b"".join(texts[:101]), "check")
-    refused = instructions(b"".join(texts[:101] + texts[-1:]), "check")
-    return (many - few) / 94, refused - many
+    costs = text_costs(b"".join(texts + texts[-1:]))
+    return sum(costs[8:102]) / 94, costs[102]
 
 
 def told(name, figure, goal, unit):
